@@ -1,0 +1,4 @@
+pub mod Arith
+mod Examples
+pub mod Line
+pub mod Trap

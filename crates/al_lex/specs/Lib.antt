@@ -1,0 +1,10 @@
+pub mod Bytes
+pub mod Cut
+pub mod Pieces
+pub mod Position
+pub mod Rows
+pub mod Scan
+pub mod Spelling
+pub mod TokenList
+pub mod Values
+pub mod Written

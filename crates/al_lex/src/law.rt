@@ -1,0 +1,12 @@
+ghost use Rattle.std.specs.Prelude.{◌≡◌, ◌⊎◌, List, ℕ};
+ghost use Rattle.al_lex.specs.declared.fault.LexReason.{LexReason};
+ghost use Rattle.al_lex.specs.Cut.{Piece, Cut, Stuck};
+
+/// The laws of the cutting: each text is cut or stuck, in one way, and never both. The function does nothing.
+pub fn cutting_laws()
+    ensures cut_once { (text : List ℕ) (ps : List Piece) (qs : List Piece) → Cut text ps → Cut text qs → ps ≡ qs }
+    ensures never_both { (text : List ℕ) (ps : List Piece) (reason : LexReason) (byte : ℕ) → Cut text ps → Stuck text reason byte → ⊥ }
+    ensures one_reason { (text : List ℕ) (r : LexReason) (s : LexReason) (i : ℕ) (j : ℕ) → Stuck text r i → Stuck text s j → r ≡ s }
+    ensures one_byte { (text : List ℕ) (r : LexReason) (s : LexReason) (i : ℕ) (j : ℕ) → Stuck text r i → Stuck text s j → i ≡ j }
+    ensures cut_or_stuck { (text : List ℕ) → ((ps : List Piece) × Cut text ps) ⊎ ((r : LexReason) × (i : ℕ) × Stuck text r i) }
+{}

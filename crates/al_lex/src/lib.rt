@@ -1,0 +1,26 @@
+//! From the bytes of a text to its tokens.
+#![tactic(auto)]
+
+mod class;
+mod fault;
+mod kind;
+mod law;
+mod line;
+mod names;
+mod number;
+mod position;
+mod reading;
+mod scan;
+mod spelling;
+mod string;
+mod token;
+
+pub use fault::{LexFault, LexReason, LexStop};
+pub use kind::{PieceKind, TokenKind};
+pub use law::cutting_laws;
+pub use number::{number_kind, number_value};
+pub use reading::{lex, next};
+pub use token::{Token, Tokens};
+
+#[cfg(test)]
+mod tests;

@@ -1,0 +1,5 @@
+pub mod Laid
+mod Search
+pub mod Gaps
+mod Freed
+mod Changes

@@ -1,0 +1,16 @@
+pub mod Channels
+pub mod Talks
+pub mod Procs
+pub mod Control
+pub mod World
+pub mod Actions
+pub mod Step
+pub mod Scripts
+pub mod Examples
+pub mod Alike
+pub mod Laws
+pub mod Transfers
+pub mod Answers
+pub mod Renamed
+pub mod Permitted
+pub mod Turns

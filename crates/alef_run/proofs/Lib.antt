@@ -1,0 +1,4 @@
+pub mod Causes
+pub mod Stages
+pub mod Told
+pub mod Whole

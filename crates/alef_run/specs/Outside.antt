@@ -1,0 +1,15 @@
+-- What reading from a host and writing to a sink to the end do.
+use Rattle.std.specs.Prelude.{◌≡◌, ℕ, ◌≤◌, List, ◌++◌, length, take}
+use Rattle.al_host.specs.Outside.{Content}
+
+-- the first n bytes of a buffer are all that was left, or as much of it as the buffer has room for
+abbrev pub FillsFront : ℕ → List ℕ → Content → Content → Type 0
+FillsFront n buffer before after = (take n buffer ≡ take (length buffer) before.left) × (after.texts ≡ before.texts)
+
+-- a sink got all of a piece
+abbrev pub GetsAll : List ℕ → List ℕ → List ℕ → Type 0
+GetsAll piece before after = after ≡ before ++ piece
+
+-- a sink got a first part of a piece
+abbrev pub GetsPart : List ℕ → List ℕ → List ℕ → Type 0
+GetsPart piece before after = (n : ℕ) × (n ≤ length piece) × (after ≡ before ++ take n piece)

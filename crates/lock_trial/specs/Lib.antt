@@ -1,0 +1,4 @@
+pub mod DeskValue
+pub mod DeskMemo
+pub mod Crew
+pub mod Working

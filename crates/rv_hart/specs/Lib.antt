@@ -1,0 +1,5 @@
+pub mod Hart
+pub mod Run
+pub mod Asked
+pub mod Seen
+pub mod Examples
