@@ -56,3 +56,6 @@ mod items;
 
 pub use boxed::Boxed;
 pub use items::Items;
+
+#[cfg(test)]
+mod tests;

@@ -2,6 +2,7 @@ pub mod Answers
 pub mod Bounds
 pub mod Chars
 pub mod Comments
+pub mod Constants
 pub mod Gone
 pub mod Laws
 pub mod Lines

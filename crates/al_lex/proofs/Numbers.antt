@@ -165,14 +165,14 @@ number_begins (hexadecimal d ds h) b bs r e = let x : b ≡ 48 = cc in rw x refl
 number_begins (octal ds h) b bs r e = let x : b ≡ 48 = cc in rw x refl
 number_begins (decimal d ds h o) b bs r e = let x : b ≡ d = cc in rw x (both (is_digit d) (list_all is_digit ds) h).0
 
-some_digit : {u : List ℕ} {v : ℕ} → IsNumber u v → 1 ≤ length u
-some_digit (hexadecimal d ds h) = omega arith
-some_digit (octal ds h) = omega arith
-some_digit (decimal d ds h o) = omega arith
+pub some_number : {u : List ℕ} {v : ℕ} → IsNumber u v → 1 ≤ length u
+some_number (hexadecimal d ds h) = omega arith
+some_number (octal ds h) = omega arith
+some_number (decimal d ds h o) = omega arith
 
 -- the whole of a number is read, with its value
 pub whole_value : (u : List ℕ) (v : ℕ) → IsNumber u v → value_of (numeral u).0 (numeral u).1 ≡ v
-whole_value [] v d = absurd (omega (arith, some_digit d))
+whole_value [] v d = absurd (omega (arith, some_number d))
 whole_value (b ∷ bs) v d =
     let u = b ∷ bs in
     let end = append-nil u in

@@ -22,7 +22,7 @@ use Rattle.al_lex.proofs.Answers.{IsSound, piece, fault, nothing, Covers, longer
 use Rattle.al_lex.proofs.Runs.{both, run_longer, choose_by, by_bool, if_true, if_false, equal}
 use Rattle.al_lex.proofs.Tables.{all_in, same_is, first_cons}
 use Rattle.al_lex.proofs.Words.{reserved_covers, name_covers, word_sound, operator_covers, operator_sound}
-use Rattle.al_lex.proofs.Numbers.{number_covers, number_sound, number_fault, number_begins}
+use Rattle.al_lex.proofs.Numbers.{some_number, number_covers, number_sound, number_fault, number_begins}
 use Rattle.al_lex.proofs.Strings.{string_covers, string_open, string_wrong, string_sound}
 use Rattle.al_lex.proofs.Chars.{char_covers, char_wrong, char_sound}
 use Rattle.al_lex.proofs.Comments.{comment_covers, comment_open, slash_sound}
@@ -183,11 +183,6 @@ some_operator : (u : List ℕ) → starts_operator u ≡ true → 1 ≤ length u
 unfolding starts_operator
 some_operator [] h = absurd (let f : ⊥ = cc in f)
 some_operator (b ∷ bs) h = omega arith
-
-some_number : {u : List ℕ} {v : ℕ} → IsNumber u v → 1 ≤ length u
-some_number (hexadecimal d ds h) = omega arith
-some_number (octal ds h) = omega arith
-some_number (decimal d ds h o) = omega arith
 
 some_token : {kind : TokenKind} {u : List ℕ} → IsToken kind u → 1 ≤ length u
 some_token (name (word b bs h e) other) = omega arith

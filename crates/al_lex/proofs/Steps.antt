@@ -69,7 +69,7 @@ digit_over base v ds i lt h e over =
     let low = high_below base (v * base + digit_value (get_or ds i 0)) (drop (i + 1) ds) h in
     too_big (value_of base ds) (omega (arith, low, is))
 
-octal_hex : (b : ℕ) → is_octal b ≡ true → is_hex b ≡ true
+pub octal_hex : (b : ℕ) → is_octal b ≡ true → is_hex b ≡ true
 octal_hex b h = grind (arith, common_steps)
 
 digit_hex : (b : ℕ) → is_digit b ≡ true → is_hex b ≡ true

@@ -15,7 +15,7 @@ use Rattle.al_lex.specs.Scan.{flaw, is_escape_letter, octal_len, escape_len, beg
 use Rattle.al_lex.proofs.Answers.{IsSound, piece, fault, Covers, longer}
 use Rattle.al_lex.proofs.Runs.{both, and_true, run_longer, run_part, choose_by, by_bool, chosen, widen, if_true, if_false, equal, equal_true, equal_false, some_true, some_is, none_is}
 use Rattle.al_lex.proofs.Tables.{not_both}
-use Rattle.al_lex.proofs.Steps.{farther}
+use Rattle.al_lex.proofs.Steps.{farther, octal_hex}
 
 -- ---- escapes
 
@@ -40,10 +40,10 @@ letter_is b (y ∷ rows) h = go (y.0 == b) refl h (letter_is b rows)
     go true e h more = record { value = y.1; is = subst (λ (x : ℕ). In (x, y.1) (y ∷ rows)) (equal y.0 b e) here }
     go false e h more = let m = more h in record { value = m.value; is = there m.is }
 
-octal_first : (b : ℕ) → is_octal b ≡ true → is_escape_letter b ≡ false
+pub octal_first : (b : ℕ) → is_octal b ≡ true → is_escape_letter b ≡ false
 octal_first b h = grind (arith, common_steps)
 
-octal_not_x : (b : ℕ) → is_octal b ≡ true → (b == 120) ≡ false
+pub octal_not_x : (b : ℕ) → is_octal b ≡ true → (b == 120) ≡ false
 octal_not_x b h = grind (arith, common_steps)
 
 pub escape_octal : (b : ℕ) (bs : List ℕ) → is_octal b ≡ true → escape_len (b ∷ bs) ≡ octal_len (b ∷ bs)
@@ -165,9 +165,6 @@ escape_none rest none = by_bool (begins_escape rest) (λ t. let e = escape_found
 
 hex_plain : (b : ℕ) → is_hex b ≡ true → (b ≢ quote) × (b ≢ line_feed) × (b ≢ backslash)
 hex_plain b h = (λ e. not_both (is_hex quote) (subst (λ (x : ℕ). is_hex x ≡ true) e h) refl, λ e. not_both (is_hex line_feed) (subst (λ (x : ℕ). is_hex x ≡ true) e h) refl, λ e. not_both (is_hex backslash) (subst (λ (x : ℕ). is_hex x ≡ true) e h) refl)
-
-octal_hex : (b : ℕ) → is_octal b ≡ true → is_hex b ≡ true
-octal_hex b h = grind (arith, common_steps)
 
 string_plain : (b : ℕ) (bs : List ℕ) → b ≢ quote → b ≢ line_feed → b ≢ backslash → string_from false (b ∷ bs) ≡ onward 1 (string_from false bs)
 string_plain b bs q l k = if_false (b == quote) _ _ (equal_false b quote q) ∙ if_false (b == line_feed) _ _ (equal_false b line_feed l) ∙ if_false (b == backslash) _ _ (equal_false b backslash k)

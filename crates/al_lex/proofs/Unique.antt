@@ -1,5 +1,5 @@
 -- The next token, or the fault before it, is one.
-use Rattle.std.proofs.Common.{◌≡◌, ◌≢◌, ℕ, ◌+◌, ◌<◌, ◌≤◌, Bool, true, false, not, ◌&&◌, List, [], ◌∷◌, ◌++◌, length, Result, Ok, Err, IfOk, IfErr, refl, sym, ap, ap₂, ◌∙◌, subst, arith, append_assoc, length-append}
+use Rattle.std.proofs.Common.{◌≡◌, ℕ, ◌+◌, Bool, true, not, List, [], ◌∷◌, ◌++◌, length, Result, Ok, Err, IfOk, IfErr, refl, sym, ap, ap₂, ◌∙◌, subst, arith, append_assoc}
 use Rattle.std.proofs.lemmas.List.{append-nil}
 use Rattle.std.specs.List.{list_all}
 use Rattle.al_lex.specs.declared.kind.TokenKind.{TokenKind}
@@ -9,8 +9,7 @@ use Rattle.al_lex.specs.declared.fault.LexReason.{LexReason}
 use Rattle.al_lex.specs.declared.fault.LexFault.{LexFault}
 use Rattle.al_lex.specs.declared.token.Token.{Token}
 use Rattle.al_lex.specs.Cut.{IsNext, IsFault, Piece, Pieces, none, next, joined, is_fresh, Stuck}
-use Rattle.al_lex.specs.Scan.{scan}
-use Rattle.al_lex.specs.Written.{IsGapTo, IsTokenHere, ends, token, IsNextToken, IsNextFault, is_token, token_at, end_token}
+use Rattle.al_lex.specs.Written.{IsTokenHere, ends, token, IsNextToken, IsNextFault, is_token, token_at, end_token}
 use Rattle.al_lex.proofs.Runs.{both}
 use Rattle.al_lex.proofs.Tables.{not_both}
 use Rattle.al_lex.proofs.Scanned.{fault_is, same_flaw, no_fault_of_nothing}

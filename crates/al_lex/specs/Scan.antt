@@ -104,6 +104,34 @@ escape_len (b ∷ bs) =
 abbrev pub begins_escape : List ℕ → Bool
 begins_escape ts = nat_lt 0 (escape_len ts)
 
+-- the byte that an escape of one letter stands for
+abbrev pub letter_byte : ℕ → ℕ
+letter_byte b =
+    if b == 110 then 10
+    else (if b == 114 then 13
+    else (if b == 116 then 9
+    else (if b == 98 then 8
+    else (if b == 102 then 12
+    else (if b == 97 then 7
+    else (if b == 118 then 11
+    else b))))))
+
+abbrev pub small_byte : ℕ → ℕ
+small_byte v = if nat_lt v 256 then v else 0
+
+-- the byte that the escape behind a `\` stands for
+abbrev pub escape_byte : List ℕ → ℕ
+escape_byte [] = 0
+escape_byte (b ∷ bs) =
+    if is_escape_letter b then letter_byte b
+    else (if b == 120 then small_byte (value_of 16 (take_while is_hex bs))
+    else small_byte (value_of 8 (take_while is_octal (b ∷ bs))))
+
+-- the byte that stands behind the `'` of a constant
+abbrev pub constant_byte : List ℕ → ℕ
+constant_byte [] = 0
+constant_byte (b ∷ bs) = if b == backslash then escape_byte bs else b
+
 -- the constant whose byte takes `n` bytes and ends before `rest`
 abbrev pub closed : ℕ → List ℕ → Answer
 closed n rest = if first_is apostrophe rest then found (p.Token k.Char) (n + 2) else flaw r.BadChar 0

@@ -2,6 +2,7 @@
 #![tactic(auto)]
 
 mod class;
+mod constant;
 mod fault;
 mod kind;
 mod law;
@@ -15,6 +16,7 @@ mod spelling;
 mod string;
 mod token;
 
+pub use constant::char_value;
 pub use fault::{LexFault, LexReason, LexStop};
 pub use kind::{PieceKind, TokenKind};
 pub use law::cutting_laws;

@@ -70,7 +70,7 @@ fn digit_value(b: u8) -> u64
 }
 
 /// The value of digits to a base, if it is below 2^64.
-fn value(base: u64, digits: &[u8]) -> Option<u64>
+pub(crate) fn value(base: u64, digits: &[u8]) -> Option<u64>
     requires base { 1 ≤ base }
     requires digits { list_all is_hex digits.now ≡ true }
     ensures { result ≡ fitting (value_of base digits.now) }

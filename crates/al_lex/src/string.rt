@@ -19,7 +19,7 @@ pub(crate) enum StringEnd {
 }
 
 /// Whether the letter and a `\` before it are an escape.
-fn is_escape_letter(b: u8) -> bool
+pub(crate) fn is_escape_letter(b: u8) -> bool
     ensures { result ≡ is_escape_letter b }
 {
     b"nrtbfav\\\"'".contains(&b)

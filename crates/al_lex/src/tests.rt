@@ -1,9 +1,11 @@
 //! Texts with the tokens or the fault that they have.
+use crate::constant::char_value;
 use crate::fault::{LexFault, LexReason, LexStop};
 use crate::kind::TokenKind as K;
+use crate::number::{number_kind, number_value};
 use crate::reading::{lex, next};
 use crate::token::Token;
-use al_base::Place;
+use al_base::{Kind, Place};
 use std::alloc::Global;
 use std::process::Abort;
 use std::test::Fail;
@@ -365,6 +367,23 @@ fn the_next_token_is_past_blanks_and_comments(rt: HostRuntime) -> Result<(), Fai
     assert_eq!(rt; next(text, 12), Err(fault));
     assert_eq!(rt; next(b"a ", 1), Ok(token(K::End, 0, 2, 2, 1, 3)));
     Ok(())
+}
+
+#[test]
+fn numbers_and_constants_have_values(rt: HostRuntime) {
+    assert_eq!(rt; number_value(b"0x10"), Some(16));
+    assert_eq!(rt; number_value(b"017"), Some(15));
+    assert_eq!(rt; number_value(b"18446744073709551615"), Some(u64::MAX));
+    assert_eq!(rt; number_value(b"18446744073709551616"), None);
+    assert_eq!(rt; number_kind(2147483647), Kind::Int);
+    assert_eq!(rt; number_kind(2147483648), Kind::Uint);
+    assert_eq!(rt; number_kind(4294967296), Kind::Lint);
+    assert_eq!(rt; number_kind(9223372036854775808), Kind::Ulint);
+    assert_eq!(rt; char_value(b"'a'"), 97);
+    assert_eq!(rt; char_value(b"'\\n'"), 10);
+    assert_eq!(rt; char_value(b"'\\''"), 39);
+    assert_eq!(rt; char_value(b"'\\377'"), 255);
+    assert_eq!(rt; char_value(b"'\\x4a'"), 74);
 }
 
 #[test]

@@ -9,3 +9,6 @@ mod memory;
 mod store;
 
 pub use store::Store;
+
+#[cfg(test)]
+mod tests;

@@ -1,7 +1,8 @@
 -- Which entries are permitted.
-use Rattle.std.proofs.Common.{◌≡◌, ◌≢◌, ℕ, zero, suc, ◌<◌, List, [], ◌∷◌, Bool, true, false, cond, ◌==◌, ◌↔◌, ℤ, length, Option, Some, None, IsSome, Result, Ok, Err, option_map, option_and_then, refl, sym, subst, arith}
+use Rattle.std.proofs.Common.{◌∙◌, ◌≡◌, ◌≢◌, ℕ, zero, suc, ◌<◌, List, [], ◌∷◌, Bool, true, false, cond, ◌==◌, ◌↔◌, ℤ, length, Option, Some, None, IsSome, Result, Ok, Err, option_map, option_and_then, refl, sym, subst, arith, take, drop, ◌++◌}
 use Rattle.std.specs.Prelude.{slice_get, nat_lt}
 use Rattle.std.specs.List.{list_any}
+use Rattle.std.proofs.lemmas.List.{take-append-drop}
 use Rattle.std.proofs.lemmas.Option.{same_Some, slice_get_within}
 use Rattle.al_base.specs.declared.trap.Trap.{Trap}
 use Rattle.al_base.specs.declared.trap.Trap.TheVariants.{Chan}
@@ -18,11 +19,13 @@ use Rattle.al_world.specs.Procs.{has_ready, live_tasks}
 use Rattle.al_world.specs.Control.{Kind}
 use Rattle.al_world.specs.World.{TaskName, TalkName, same_talker, Shared, World, Effect}
 use Rattle.al_world.specs.Actions.{acts, performs, at_zero, trapped, goes, goes_or_waits, talk_of, ended_by, or_trap}
-use Rattle.al_world.specs.Step.{task_of, after, step_held, step, counted, over_or, end_by_lists, opening_with, with_globals}
-use Rattle.al_world.specs.Permitted.{IsDoneInRange, IsPermitted, StepsWherePermitted, RunsGoOn, IsNeverSpent}
+use Rattle.al_world.specs.Step.{task_of, after, step_held, step, counted, over_or, end_by_lists, opening_with, with_globals, run, opening}
+use Rattle.al_world.specs.Permitted.{IsDoneInRange, IsPermitted, StepsWherePermitted, RunsGoOn, GoesThrough, RunsGoThrough, IsNeverSpent}
+use Rattle.al_world.specs.Laws.{IsStillLent}
+use Rattle.al_world.proofs.Roles.{is_local_along}
 use Rattle.al_world.proofs.Lists.{all_at}
 use Rattle.al_world.proofs.Cases.{got_some, IfSome', performs_cases}
-use Rattle.al_world.proofs.Runs.{along}
+use Rattle.al_world.proofs.Runs.{along, run_none}
 use Rattle.al_world.proofs.Local.{step_by}
 use Rattle.al_world.proofs.Sound.{Offers}
 use Rattle.al_world.proofs.Fires.{IsPair, pairs_are}
@@ -162,6 +165,21 @@ module _ (K : Kind) where
   pub runs_go_on : RunsGoOn K
   runs_go_on [] more o = refl
   runs_go_on (e ∷ es) more o = runs_go_on es more (option_and_then (λ w. step K w e) o)
+
+  pub runs_go_through : RunsGoThrough K
+  runs_go_through h more w v r = on (run K h (Some w)) refl (sym (runs_go_on h more (Some w)) ∙ r)
+    where
+      on : (o : Option (World K)) → run K h (Some w) ≡ o → run K more o ≡ Some v → GoesThrough K h more w v
+      on None e g = absurd (let x = run_none K more in cc)
+      on (Some u) e g = record { between = u; before = e; rest = g }
+
+  -- what was lent after the first s entries is still so
+  pub is_still_lent : IsStillLent K
+  is_still_lent region globals start h s w v p t r g ne f =
+      let joined : run K (take s h ++ drop s h) (Some (opening K region globals start)) ≡ Some v = subst (λ l. run K l (Some (opening K region globals start)) ≡ Some v) (sym (take-append-drop s h)) g in
+      let x = runs_go_through (take s h) (drop s h) (opening K region globals start) v joined in
+      let same : x.between ≡ w = same_Some x.between w (sym x.before ∙ r) in
+      is_local_along K region globals start (take s h) (drop s h) w v p t r (subst (λ u. run K (drop s h) (Some u) ≡ Some v) same x.rest) ne f
 
   abbrev NotSpent : World K → Type 0
   NotSpent w = w.shared.over ≢ Some Spent

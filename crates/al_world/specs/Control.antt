@@ -28,6 +28,10 @@ pub record Kind : Type 1 where
   -- private globals at a proc's start
   pub fresh : Privates
 
+-- the kind that is made of these
+abbrev pub kind_of : {C U : Type 0} → (C → U → Asked C U) → (C → List ℕ → C) → (Start → C) → U → Kind
+kind_of {C} {U} ask resume start fresh = record { Control = C; Privates = U; ask = ask; resume = resume; start = start; fresh = fresh }
+
 -- ---- answers
 
 -- n words, each below m: what is missing is 0, and what is too much is cut off

@@ -1,10 +1,12 @@
 -- Worked examples of runs.
 use Rattle.std.specs.Prelude.{ℕ, zero, suc, ◌+◌, List, [], ◌∷◌, Some, None, slice_index, replicate, refl, ◌≡◌, pos}
-use Rattle.al_base.specs.declared.trap.Trap.TheVariants.{Fault, Align, Memory, Unalloc, Chan, Busy, Tasks, Illegal}
+use Rattle.al_base.specs.declared.trap.Trap.TheVariants.{Fault, Align, Divide, Memory, Unalloc, Chan, Busy, Tasks, Illegal}
 use Rattle.al_base.specs.declared.over.Over.TheVariants.{Done, Stopped, Trapped, Blocked}
 use Rattle.al_event.specs.declared.act.Block.TheVariants.{Heap, Frame}
-use Rattle.al_event.specs.declared.act.Act.TheVariants.{Load, Store, Alloc, Free, NewChan, FreeChan, CanSend, Proc, Task, Par, Terminate, Pause}
-use Rattle.al_world.specs.Scripts.{Script, Stops, does, gives_word, receive_of, sends, receives, chooses, prints, function, by_procs, with_picks, after_entries, output_of, over_of, line_in}
+use Rattle.al_event.specs.declared.act.Act.TheVariants.{Load, Store, Alloc, Free, NewChan, FreeChan, CanSend, Proc, Task, Par, Terminate, Pause, CanRecv, Trap as Traps}
+use Rattle.al_world.specs.Talks.{Transfer, Put, Get, Lost}
+use Rattle.al_world.specs.World.{TalkName}
+use Rattle.al_world.specs.Scripts.{Script, Stops, does, gives_word, receive_of, sends, receives, chooses, prints, function, by_procs, with_picks, after_entries, output_of, over_of, line_in, went_of}
 
 -- ---- an unbuffered channel
 
@@ -177,3 +179,61 @@ no_room_for_globals = refl
 -- a pick is 0 where the action is no talk that goes
 pub pick_out_of_range : over_of (after_entries (once (λ _. does Pause Stops)) 24 [] (with_picks (1 ∷ []))) ≡ None
 pick_out_of_range = refl
+
+-- a trap that a task asks for itself
+pub own_trap : over_of (after_entries (once (λ _. does Pause (does (Traps Divide) Stops))) 24 [] (by_procs (0 ∷ 0 ∷ []))) ≡ Some (Some (Trapped Divide 0 1))
+own_trap = refl
+
+-- ---- what went
+
+abbrev talk_by : ℕ → ℕ → TalkName
+talk_by p entry = record { task = record { proc = p; number = 0 }; entry = entry }
+
+-- the send is entry 0 of proc 1, and the receive entry 2 of proc 0
+pub one_transfer : went_of (after_entries exchange 24 [] (by_procs (0 ∷ 0 ∷ 0 ∷ 1 ∷ 1 ∷ 0 ∷ 0 ∷ []))) ≡ Some (Transfer 1 (talk_by 1 0) (talk_by 0 2) (42 ∷ []) ∷ [])
+one_transfer = refl
+
+-- a receive waits on an empty buffer: the send hands its words over, and the buffer stays empty
+abbrev hands_over : ℕ → List ℕ → Script
+hands_over zero _ = gives_word (NewChan 1 1) (λ c. does (Proc (function 1 (c ∷ []))) (sends c 5 (gives_word (CanSend c) (λ b. prints b Stops))))
+hands_over (suc _) words = receives (slice_index words 0) (λ v. prints v Stops)
+
+pub handed_over : output_of (after_entries hands_over 24 [] (by_procs (0 ∷ 0 ∷ 1 ∷ 0 ∷ 0 ∷ 0 ∷ 0 ∷ 1 ∷ 1 ∷ []))) ≡ Some (1 ∷ 5 ∷ [])
+handed_over = refl
+
+pub put_and_got : went_of (after_entries hands_over 24 [] (by_procs (0 ∷ 0 ∷ 1 ∷ 0 ∷ []))) ≡ Some (Put 1 (talk_by 0 2) (5 ∷ []) ∷ Get 1 (talk_by 1 0) (5 ∷ []) ∷ [])
+put_and_got = refl
+
+-- a channel is given up with the value that it holds
+abbrev gives_up : ℕ → Script
+gives_up _ = gives_word (NewChan 2 1) (λ c. sends c 7 (does (FreeChan c) (gives_word (CanRecv c) (λ _. Stops))))
+
+pub value_lost : went_of (after_entries (once gives_up) 24 [] (by_procs (0 ∷ 0 ∷ 0 ∷ []))) ≡ Some (Put 1 (talk_by 0 1) (7 ∷ []) ∷ Lost 1 ((7 ∷ []) ∷ []) ∷ [])
+value_lost = refl
+
+pub asked_after_free : over_of (after_entries (once gives_up) 24 [] (by_procs (0 ∷ 0 ∷ 0 ∷ 0 ∷ []))) ≡ Some (Some (Trapped Chan 0 3))
+asked_after_free = refl
+
+-- ---- ready lists
+
+-- task 0 blocks in a send; the receive of task 1 makes it ready behind task 2
+abbrev in_turn : ℕ → List ℕ → Script
+in_turn zero _ =
+    gives_word (NewChan 0 1) (λ c. does (Task (function 1 (c ∷ []))) (does (Task (function 2 [])) (sends c 0 (prints 3 Stops))))
+in_turn (suc zero) words = receives (slice_index words 0) (λ _. prints 1 Stops)
+in_turn (suc (suc _)) _ = prints 2 Stops
+
+pub woken_goes_last : output_of (after_entries in_turn 24 [] (by_procs (replicate 11 0))) ≡ Some (1 ∷ 2 ∷ 3 ∷ [])
+woken_goes_last = refl
+
+-- the branches of a par are procs 1 and 2 in their order, and their procs may go in any order
+abbrev branches : ℕ → List ℕ → Script
+branches zero _ = does (Par (function 1 (4 ∷ []) ∷ function 1 (5 ∷ []) ∷ [])) Stops
+branches (suc _) words = prints (slice_index words 0) Stops
+
+pub second_branch_first : output_of (after_entries branches 24 [] (by_procs (0 ∷ 2 ∷ 2 ∷ 1 ∷ 1 ∷ 0 ∷ []))) ≡ Some (5 ∷ 4 ∷ [])
+second_branch_first = refl
+
+-- globals lie at the least places in their order
+pub two_globals : output_of (after_entries (once (λ _. gives_word (Load 0x10000000 1) (λ a. gives_word (Load 0x10000008 1) (λ b. prints a (prints b Stops))))) 24 ((6 ∷ []) ∷ (7 ∷ []) ∷ []) (by_procs (0 ∷ 0 ∷ 0 ∷ 0 ∷ []))) ≡ Some (6 ∷ 7 ∷ [])
+two_globals = refl

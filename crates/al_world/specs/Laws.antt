@@ -1,5 +1,5 @@
 -- Laws of each entry and of each run.
-use Rattle.std.specs.Prelude.{ℕ, ◌≡◌, ◌≢◌, List, Some, None, map}
+use Rattle.std.specs.Prelude.{ℕ, ◌≡◌, ◌≢◌, List, Some, None, map, take, drop}
 use Rattle.std.specs.List.{AllByRecursion}
 use Rattle.al_event.specs.declared.act.Start.{Start}
 use Rattle.al_event.specs.declared.entry.Entry.{Entry}
@@ -46,3 +46,8 @@ pub record IsGoing {C : Type 0} (h : Held C) : Type 0 where
 abbrev pub IsReadyToGo : Kind → Type 0
 IsReadyToGo K =
     (region : ℕ) (globals : List (List ℕ)) (start : Start) (h : List Entry) (w : World K) (p : ℕ) (t : TaskName) → run_from K region globals start h ≡ Some w → w.shared.over ≡ None → first_ready w.shared.procs p ≡ Some t → (t.proc ≡ p) × IsGoing (w.tasks t)
+
+-- what was lent of proc p after the first s entries of a schedule, none of the later ones being of p, is still so along all
+abbrev pub IsStillLent : Kind → Type 0
+IsStillLent K =
+    (region : ℕ) (globals : List (List ℕ)) (start : Start) (h : List Entry) (s : ℕ) (w v : World K) (p : ℕ) (t : TaskName) → run_from K region globals start (take s h) ≡ Some w → run_from K region globals start h ≡ Some v → AllByRecursion (λ (e : Entry). p ≢ e.proc) (drop s h) → first_ready w.shared.procs p ≡ Some t → IsKept K w v p t

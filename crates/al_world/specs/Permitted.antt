@@ -45,3 +45,12 @@ RunsGoOn K =
 abbrev pub IsNeverSpent : Kind → Type 0
 IsNeverSpent K =
     (region : ℕ) (globals : List (List ℕ)) (start : Start) (h : List Entry) (w : World K) → run_from K region globals start h ≡ Some w → w.shared.over ≢ Some Spent
+
+-- where there is a run along a schedule and more, there is one along the schedule, from which the rest goes on
+pub record GoesThrough (K : Kind) (h more : List Entry) (w v : World K) : Type 0 where
+  pub between : World K
+  pub before : run K h (Some w) ≡ Some between
+  pub rest : run K more (Some between) ≡ Some v
+
+abbrev pub RunsGoThrough : Kind → Type 0
+RunsGoThrough K = (h more : List Entry) (w v : World K) → run K (h ++ more) (Some w) ≡ Some v → GoesThrough K h more w v

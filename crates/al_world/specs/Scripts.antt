@@ -7,7 +7,8 @@ use Rattle.al_event.specs.declared.act.Act.{Act}
 use Rattle.al_event.specs.declared.act.Act.TheVariants.{Talk, Print, End}
 use Rattle.al_event.specs.declared.entry.Entry.{Entry}
 use Rattle.al_world.specs.Control.{Kind}
-use Rattle.al_world.specs.World.{Shared}
+use Rattle.al_world.specs.Talks.{Went}
+use Rattle.al_world.specs.World.{TalkName, Shared}
 use Rattle.al_world.specs.Step.{opening, seen}
 
 pub data Script : Type 0 where
@@ -89,3 +90,6 @@ over_of o = option_map (λ (s : Shared). s.over) o
 
 abbrev pub line_in : Option Shared → Option ℕ
 line_in o = option_map (λ (s : Shared). s.line) o
+
+abbrev pub went_of : Option Shared → Option (List (Went TalkName))
+went_of o = option_map (λ (s : Shared). s.went) o

@@ -2,7 +2,7 @@
 
 ghost use Rattle.std.specs.Prelude.{ℕ, List};
 ghost use Rattle.al_event.specs.declared.act.Start.{Start};
-ghost use Rattle.al_world.specs.Control.{Asked};
+ghost use Rattle.al_world.specs.Control.{Asked, kind_of};
 ghost use Rattle.al_world.specs.Alike.{Relation, Alike};
 ghost use Rattle.al_world.specs.Answers.{Propriety, StaysProper};
 
@@ -26,12 +26,12 @@ pub trait Tasks {
 pub trait Matches<L: Tasks>: Tasks {
     ghost relation: { Relation Self.Control L.Control Self.Privates L.Privates };
 
-    ghost alike: { Alike (record { Control = Self.Control; Privates = Self.Privates; ask = Self.ask; resume = Self.resume; start = Self.start; fresh = Self.fresh }) (record { Control = L.Control; Privates = L.Privates; ask = L.ask; resume = L.resume; start = L.start; fresh = L.fresh }) relation };
+    ghost alike: { Alike (kind_of Self.ask Self.resume Self.start Self.fresh) (kind_of L.ask L.resume L.start L.fresh) relation };
 }
 
 /// A kind whose tasks ask properly: each send has as many words as its branch says, of 32 bits each.
 pub trait Proper: Tasks {
     ghost propriety: { Propriety Self.Control Self.Privates };
 
-    ghost stays: { StaysProper (record { Control = Self.Control; Privates = Self.Privates; ask = Self.ask; resume = Self.resume; start = Self.start; fresh = Self.fresh }) propriety };
+    ghost stays: { StaysProper (kind_of Self.ask Self.resume Self.start Self.fresh) propriety };
 }

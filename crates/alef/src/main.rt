@@ -2,10 +2,11 @@
 #![tactic(auto)]
 
 use al_base::NoMemory;
-use al_host::{FileHost, LogSink, OutSink};
+use al_host::{FileHost, LogSink, OutSink, Sink};
 use alef_run::alef;
 use std::alloc::Global;
 use std::env;
+use std::io::{self, ErrorKind};
 use std::process::ExitCode;
 
 /// The status of want of memory.
@@ -13,30 +14,43 @@ const NO_MEMORY: u8 = 8;
 
 fn main(rt: HostRuntime) -> ExitCode {
     let alloc = rt.alloc();
-    let Ok(given) = env::args(&rt) else {
-        return ExitCode::from(NO_MEMORY);
-    };
-    let mut names = Vec::new(alloc);
-    for name in given.skip(1) {
-        if names.push(name).is_err() {
-            return ExitCode::from(NO_MEMORY);
-        }
-    }
-    let Ok(words) = words_of(alloc, &names) else {
-        return ExitCode::from(NO_MEMORY);
-    };
     let mut host = FileHost::new(&rt);
     let mut out = OutSink::new(rt.stdout());
     let mut log = LogSink::new(rt.stderr());
-    let report = alef(&rt, alloc, &words, &mut host, &mut out, &mut log);
-    ExitCode::from(report.status)
+    let status = match names(&rt, alloc) {
+        Ok(names) => match words_of(alloc, &names) {
+            Ok(words) => alef(&rt, alloc, &words, &mut host, &mut out, &mut log).status,
+            Err(NoMemory) => out_of_memory(&mut log),
+        },
+        Err(error) if error.kind() == ErrorKind::InvalidData => {
+            // words that are no text are no job
+            alef(&rt, alloc, &[], &mut host, &mut out, &mut log).status
+        }
+        Err(_) => out_of_memory(&mut log),
+    };
+    ExitCode::from(status)
+}
+
+/// The words after the program's name.
+fn names(rt: &HostRuntime, alloc: Global) -> io::Result<Vec<String>> {
+    let mut names = Vec::new(alloc);
+    for name in env::args(rt)?.skip(1) {
+        names.push(name)?;
+    }
+    Ok(names)
 }
 
 /// The words as text that others may look at.
-fn words_of(alloc: Global, given: &[String]) -> Result<Vec<&str>, NoMemory> {
+fn words_of(alloc: Global, names: &[String]) -> Result<Vec<&str>, NoMemory> {
     let mut words = Vec::new(alloc);
-    for word in given {
-        words.push(word.as_str())?;
+    for name in names {
+        words.push(name.as_str())?;
     }
     Ok(words)
+}
+
+/// Want of memory before the words were read: its line, as far as the log takes it, and its status.
+fn out_of_memory(log: &mut impl Sink) -> u8 {
+    let _ = log.write(b"alef: out of memory\n");
+    NO_MEMORY
 }

@@ -1,5 +1,5 @@
 -- From what the stages of a call say to why it ends as it does.
-use Rattle.std.proofs.Common.{◌≡◌, ℕ, ◌+◌, List, length, take, Option, Some, None, sym, ap, ◌∙◌, subst, inl, inr}
+use Rattle.std.proofs.Common.{◌≡◌, ℕ, ◌+◌, List, length, take, drop, Option, Some, None, sym, ap, ◌∙◌, subst, inl, inr}
 use Rattle.std.specs.Prelude.{◌⊎◌, replicate}
 use Rattle.al_first.specs.declared.form.Form.{Form}
 use Rattle.al_first.specs.Form.{IsForm}
@@ -13,7 +13,7 @@ use Rattle.alef_run.specs.Outside.{GetsAll, GetsPart}
 use Rattle.alef_run.specs.Words.{file_of}
 use Rattle.alef_run.specs.Write.{MatchesWrite}
 use Rattle.alef_run.specs.Build.{IsRunOf}
-use Rattle.alef_run.specs.Call.{Call, Ends, WasRead, DidRun, DidNothing, LacksText, HasNoForm, named_text, text_by, text_in, first_entry}
+use Rattle.alef_run.specs.Call.{Call, Ends, WasRead, DidRun, DidNothing, LacksText, LeavesRest, HasNoForm, named_text, text_by, text_in, first_entry}
 use Rattle.alef_run.specs.declared.report.End.{End}
 use Rattle.alef_run.specs.declared.report.End.TheVariants.{Ran, Words, ReadFault, Refused, WriteFault, NoMemory}
 use Rattle.alef_run.specs.declared.report.Refused.TheVariants.{Form as Another}
@@ -25,10 +25,14 @@ same_file o a b e f = cc
 not_none : {A : Type 0} (o : Option A) (a : A) → o ≡ Some a → o ≡ None → ⊥
 not_none o a e f = cc
 
-pub was_read : (call : Call) (file : List ℕ) → file_of call.words ≡ Some file → (LacksText call.told file → ⊥)
-    → call.host_after ≡ call.host_before → WasRead call
-was_read call file is found calm = record {
+pub was_read : (call : Call) (file : List ℕ) (room : ℕ) → file_of call.words ≡ Some file → room ≡ 901
+    → ((text : List ℕ) → text_in call.told file ≡ Some text → LeavesRest (drop room text) call.told_after)
+    → (LacksText call.told file → ⊥) → call.host_after ≡ call.host_before → WasRead call
+was_read call file room is full rest found calm = record {
   job = not_none _ file is;
+  whole = λ text named.
+    let P : ℕ → Type 0 = λ k. LeavesRest (drop k text) call.told_after in
+    subst P full (rest text (sym (ap (λ (o : Option (List ℕ)). text_by o call.told) is) ∙ named));
   found = λ m. found (let P : List ℕ → Type 0 = LacksText call.told in subst P (same_file _ m.0 file m.1 is) m.2);
   calm = calm;
 }

@@ -1,11 +1,15 @@
 -- Facts of what an object tells, before and after calls.
 use Rattle.std.proofs.Common.{◌≡◌, ℕ, zero, suc, ◌+◌, ◌-◌, ◌<◌, ◌≤◌, List, [], ◌∷◌, ◌++◌, length, take, drop, Option, Some, None, refl, sym, ap, ap₂, ◌∙◌, arith, append_assoc, length-append, subst}
-use Rattle.std.proofs.lemmas.List.{length-drop, length-take-le, take-append-le, take_all, drop-drop, drop_at}
+use Rattle.std.proofs.lemmas.List.{length-drop, length-take-le, take-append-le, take_all, drop-drop, drop_at, drop_all}
 use Rattle.std.proofs.lemmas.Slice.{take-put_mid_below}
 use Rattle.alef_run.specs.Outside.{FillsFront}
-use Rattle.al_host.specs.Outside.{Reads, Gets}
+use Rattle.al_host.specs.Outside.{Finds, Reads, Gets}
+use Rattle.alef_run.specs.Call.{LeavesRest, text_in}
 use borrow.Rule.Slice.PartMut.{put_mid, post_of}
 use Rattle.al_host.specs.Outside.{Content, WhereTold}
+
+same_text : {A : Type 0} (o : Option A) (a b : A) → o ≡ Some a → o ≡ Some b → a ≡ b
+same_text o a b e f = cc
 
 pub told_at_once : {A : Type 0} (P : A → A → Type 0) (o : Option A) → ((a : A) → P a a) → WhereTold P o o
 told_at_once P (Some a) h = h a
@@ -73,11 +77,19 @@ filled_on n len k buffer part a b c h h' f r = record {
 pub filled_all : (n : ℕ) (buffer : List ℕ) (a c : Content) → n ≤ length buffer → c.left ≡ [] → Filling n buffer a c → FillsFront n buffer a c
 filled_all n buffer a c h e f =
     let all : length a.left - n ≡ 0 = sym (length-drop n a.left) ∙ ap length (sym f.rest ∙ e) in
-    (f.bytes ∙ take_all n a.left (omega arith) ∙ sym (take_all (length buffer) a.left (omega arith)), f.same)
+    record {
+      bytes = f.bytes ∙ take_all n a.left (omega arith) ∙ sym (take_all (length buffer) a.left (omega arith));
+      rest = e ∙ sym (drop_all (length buffer) a.left (omega arith));
+      same = f.same;
+    }
 
 -- the buffer is full
 pub filled_up : (n : ℕ) (buffer : List ℕ) (a c : Content) → n ≡ length buffer → Filling n buffer a c → FillsFront n buffer a c
-filled_up n buffer a c e f = (f.bytes ∙ ap (λ (k : ℕ). take k a.left) e, f.same)
+filled_up n buffer a c e f = record {
+  bytes = f.bytes ∙ ap (λ (k : ℕ). take k a.left) e;
+  rest = f.rest ∙ ap (λ (k : ℕ). drop k a.left) e;
+  same = f.same;
+}
 
 -- one write more
 pub got_on : (n len : ℕ) (piece a b c : List ℕ) → Getting n piece a b → Gets len (drop n piece) b c → Getting (n + len) piece a c
@@ -127,3 +139,14 @@ told_done n len buffer part o o' o'' h p z =
 
 pub told_full : (n : ℕ) (buffer : List ℕ) (o o'' : Option Content) → n ≡ length buffer → WhereTold (Filling n buffer) o o'' → WhereTold (FillsFront n buffer) o o''
 told_full n buffer o o'' e = told_as (Filling n buffer) (FillsFront n buffer) o o'' (λ a b f. filled_up n buffer a b e f)
+
+-- a text was found, and then its front was read
+pub found_and_read : (name : List ℕ) (n : ℕ) (buffer : List ℕ) (o o' o'' : Option Content)
+    → WhereTold (Finds name) o o' → WhereTold (FillsFront n buffer) o' o'' → (text : List ℕ) → text_in o name ≡ Some text
+    → LeavesRest (drop (length buffer) text) o''
+found_and_read name n buffer (Some a) (Some b) (Some c) f r text is =
+    let same : text ≡ b.left = same_text _ _ _ is f.text in
+    r.rest ∙ ap (drop (length buffer)) (sym same)
+found_and_read name n buffer (Some a) (Some b) None f r text is = absurd r
+found_and_read name n buffer (Some a) None o f r text is = absurd f
+found_and_read name n buffer None o o'' f r text is = cc

@@ -1,5 +1,5 @@
 -- What a call of the command does, from its words and the world outside to its end.
-use Rattle.std.specs.Prelude.{◌≡◌, ◌≢◌, ℕ, ◌+◌, ◌⊎◌, List, [], length, replicate, Option, Some, None}
+use Rattle.std.specs.Prelude.{◌≡◌, ◌≢◌, ℕ, ◌+◌, ◌⊎◌, List, [], length, drop, replicate, Option, Some, None}
 use Rattle.al_base.specs.declared.over.Over.TheVariants.{Done}
 use Rattle.al_event.specs.declared.entry.Entry.{Entry}
 use Rattle.al_host.specs.Outside.{Content, Faulted, WhereTold, text_under}
@@ -14,11 +14,12 @@ use Rattle.alef_run.specs.Outside.{GetsAll, GetsPart}
 use Rattle.alef_run.specs.declared.report.End.{End}
 use Rattle.alef_run.specs.declared.report.End.TheVariants.{Ran, Words, ReadFault, Refused, WriteFault, NoMemory}
 
--- A call: its words, what the host told before it, what the sink told and how many faults both had before it and
--- after it, and what it made.
+-- A call: its words, what the host and the sink told and how many faults both had before it and after it, and what it
+-- made.
 pub record Call : Type 0 where
   pub words : List (List ℕ)
   pub told : Option Content
+  pub told_after : Option Content
   pub host_before : ℕ
   pub host_after : ℕ
   pub got_before : Option (List ℕ)
@@ -58,11 +59,17 @@ IsMissing words told = (file : List ℕ) × (file_of words ≡ Some file) × Lac
 abbrev pub HasNoForm : List ℕ → Type 0
 HasNoForm text = (form : Form) → IsForm text form → ⊥
 
+-- this is left to read of the text that a host found
+abbrev pub LeavesRest : List ℕ → Option Content → Type 0
+LeavesRest rest None = ⊥
+LeavesRest rest (Some content) = content.left ≡ rest
+
 -- ---- ends
 
--- the words are a job, its file is not missing, and the host had no fault
+-- the words are a job, its file is not missing, the text was read to its end or to byte 901, and the host had no fault
 pub record WasRead (call : Call) : Type 0 where
   pub job : file_of call.words ≢ None
+  pub whole : (text : List ℕ) → named_text call.words call.told ≡ Some text → LeavesRest (drop 901 text) call.told_after
   pub found : IsMissing call.words call.told → ⊥
   pub calm : call.host_after ≡ call.host_before
 

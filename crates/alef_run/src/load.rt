@@ -1,8 +1,8 @@
 //! From the words to the text.
 
-ghost use Rattle.std.specs.Prelude.{◌≡◌, ◌≢◌, ◌≤◌, ◌⊎◌, ℕ, List, Some, None, length, take, map, OnOk, OnErr, IfOk};
+ghost use Rattle.std.specs.Prelude.{◌≡◌, ◌≢◌, ◌≤◌, ◌⊎◌, ℕ, List, Some, None, length, take, drop, OnOk, OnErr, IfOk};
 ghost use Rattle.al_host.specs.Outside.{Faulted};
-ghost use Rattle.alef_run.specs.Call.{text_in, LacksText};
+ghost use Rattle.alef_run.specs.Call.{text_in, LacksText, LeavesRest};
 
 use crate::outside::read_front;
 use al_base::Failed;
@@ -13,6 +13,8 @@ pub(crate) fn read_file<H: Host>(host: &mut H, name: &str, buf: &mut [u8]) -> Re
     ensures within { IfOk result (λ n. n ≤ length buf.old) }
     ensures text { IfOk result (λ n. (text : List ℕ) → text_in (H.content host.old) name.now ≡ Some text
         → take n buf.new ≡ take (length buf.new) text) }
+    ensures rest { OnOk result ((text : List ℕ) → text_in (H.content host.old) name.now ≡ Some text
+        → LeavesRest (drop (length buf.new) text) (H.content host.new)) }
     ensures found { OnOk result (LacksText (H.content host.old) name.now → ⊥) }
     ensures calm { OnOk result (H.faults host.new ≡ H.faults host.old) }
     ensures cause { OnErr result (Faulted (H.faults host.old) (H.faults host.new) ⊎ LacksText (H.content host.old) name.now) }

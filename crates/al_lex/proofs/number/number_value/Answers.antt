@@ -1,4 +1,4 @@
-use Rattle.std.proofs.Common.{ap, ap₂, sym, ◌∙◌}
+use Rattle.std.proofs.Common.{ap, ap₂, ◌∙◌}
 use Rattle.al_lex.specs.Bytes.{value_of}
 use Rattle.al_lex.specs.Scan.{fitting}
 use Rattle.al_lex.proofs.Numbers.{whole_value}

@@ -1,8 +1,5 @@
-use Rattle.std.proofs.Common.{◌≡◌, Ok, Err, IfOk, IfErr, take, drop, sym, subst}
+use Rattle.std.proofs.Common.{take, drop, sym}
 use Rattle.std.proofs.lemmas.List.{take-append-drop}
-use Rattle.al_lex.specs.declared.token.Token.{Token}
-use Rattle.al_lex.specs.declared.fault.LexFault.{LexFault}
-use Rattle.al_lex.specs.Written.{IsNextToken, IsNextFault}
 use Rattle.al_lex.proofs.Unique.{ok_is, err_is, only_token, only_fault, answers_stuck}
 use Rattle.al_lex.proofs.reading.next.Goals as goal
 
