@@ -31,8 +31,8 @@ pub was_read : (call : Call) (file : List ℕ) (room : ℕ) → file_of call.wor
 was_read call file room is full rest found calm = record {
   job = not_none _ file is;
   whole = λ text named.
-    let P : ℕ → Type 0 = λ k. LeavesRest (drop k text) call.told_after in
-    subst P full (rest text (sym (ap (λ (o : Option (List ℕ)). text_by o call.told) is) ∙ named));
+      let P : ℕ → Type 0 = λ k. LeavesRest (drop k text) call.told_after in
+      subst P full (rest text (sym (ap (λ (o : Option (List ℕ)). text_by o call.told) is) ∙ named));
   found = λ m. found (let P : List ℕ → Type 0 = LacksText call.told in subst P (same_file _ m.0 file m.1 is) m.2);
   calm = calm;
 }

@@ -71,7 +71,8 @@ fn finish<K: Sink>(it: FormRun, entries: Items<Entry>, out: &mut K) -> Report
 fn serve<H: Host, K: Sink>(alloc: Global, words: &[&str], host: &mut H, out: &mut K) -> Report
     ensures end { Ends (record {
       words = map (λ word. word.now) words.now;
-      told = H.content host.old; told_after = H.content host.new;
+      told = H.content host.old;
+      told_after = H.content host.new;
       host_before = H.faults host.old;
       host_after = H.faults host.new;
       got_before = K.got out.old;
@@ -127,7 +128,8 @@ pub fn alef<R: Threads + Wait + Sync, H: Host, K: Sink, L: Sink>(
     // Why the call ends as it does, and what it did.
     ensures end { Ends (record {
       words = map (λ word. word.now) words.now;
-      told = H.content host.old; told_after = H.content host.new;
+      told = H.content host.old;
+      told_after = H.content host.new;
       host_before = H.faults host.old;
       host_after = H.faults host.new;
       got_before = K.got out.old;
