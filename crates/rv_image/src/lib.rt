@@ -1,0 +1,16 @@
+//! Images as bytes: programs for the machine, written, read and brought up to date.
+#![tactic(auto)]
+
+mod fault;
+mod header;
+mod migrating;
+mod reading;
+mod writing;
+
+pub use fault::{ImageFault, ImageStop};
+pub use migrating::migrate;
+pub use reading::read;
+pub use writing::write;
+
+#[cfg(test)]
+mod tests;
