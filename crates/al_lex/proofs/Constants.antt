@@ -13,16 +13,16 @@ pair_in : (test : ℕ × ℕ → Bool) {row : ℕ × ℕ} {rows : List (ℕ × �
 pair_in test (here {x = row} {xs = more}) h = (both (test row) (list_all test more) h).0
 pair_in test (there {y = y} {xs = more} i) h = pair_in test i (both (test y) (list_all test more) h).1
 
-letter_is_byte : {b v : ℕ} → In (b, v) escapes → letter_byte b ≡ v
+pub letter_is_byte : {b v : ℕ} → In (b, v) escapes → letter_byte b ≡ v
 letter_is_byte {b} {v} i = equal (letter_byte b) v (pair_in (λ (e : ℕ × ℕ). letter_byte e.0 == e.1) i refl)
 
-small_is : (v : ℕ) → v < 256 → small_byte v ≡ v
+pub small_is : (v : ℕ) → v < 256 → small_byte v ≡ v
 small_is v h = grind (arith, common_steps)
 
 hex_digit_small : (d : ℕ) → is_hex d ≡ true → digit_value d ≤ 15
 hex_digit_small d h = grind (arith, common_steps)
 
-hex_small : (ds : List ℕ) → length ds ≤ 2 → list_all is_hex ds ≡ true → value_of 16 ds < 256
+pub hex_small : (ds : List ℕ) → length ds ≤ 2 → list_all is_hex ds ≡ true → value_of 16 ds < 256
 hex_small [] l h = omega arith
 hex_small (a ∷ []) l h = let x = both (is_hex a) true h in omega (arith, hex_digit_small a x.0)
 hex_small (a ∷ (b ∷ [])) l h =

@@ -16,6 +16,8 @@ pub mod Steppings
 pub mod Steps
 pub mod Strings
 pub mod Tables
+pub mod Texts
+pub mod TokenValues
 pub mod Unique
 pub mod Whole
 pub mod Words

@@ -44,11 +44,11 @@ record Good (text : List ℕ) (t : Token) : Type 0 where
   ordered : t.from ≤ t.to
   within : t.to ≤ length text
 
-abbrev Each : (Token → Type 0) → List Token → Type 0
+abbrev pub Each : (Token → Type 0) → List Token → Type 0
 Each P [] = Unit {0}
 Each P (t ∷ ts) = P t × Each P ts
 
-all_of : (P : Token → Type 0) (ts : List Token) → Each P ts → All P ts
+pub all_of : (P : Token → Type 0) (ts : List Token) → Each P ts → All P ts
 all_of P [] e i d l = absurd (omega arith)
 all_of P (t ∷ ts) e zero d l = e.0
 all_of P (t ∷ ts) e (suc i) d l = all_of P ts e.1 i d (omega arith)
@@ -57,7 +57,7 @@ each_map : (P Q : Token → Type 0) → ((t : Token) → P t → Q t) → (ts : 
 each_map P Q f [] e = tt
 each_map P Q f (t ∷ ts) e = (f t e.0, each_map P Q f ts e.1)
 
-each_last : (P : Token → Type 0) (ts : List Token) (t : Token) → Each P ts → P t → Each P (ts ++ t ∷ [])
+pub each_last : (P : Token → Type 0) (ts : List Token) (t : Token) → Each P ts → P t → Each P (ts ++ t ∷ [])
 each_last P [] t e h = (h, tt)
 each_last P (x ∷ ts) t e h = (e.0, each_last P ts t e.1 h)
 

@@ -2,7 +2,7 @@
 ghost use Rattle.std.specs.Prelude.{◌≡◌, ℕ, length};
 ghost use Rattle.al_lex.specs.Scan.{fitting, letter_byte, small_byte, escape_byte, constant_byte};
 ghost use Rattle.al_lex.specs.Bytes.{value_of, is_hex};
-ghost use Rattle.al_lex.specs.Values.{IsConstant};
+ghost use Rattle.al_lex.specs.Values.{IsConstant, byte_of};
 
 use crate::class::{hex_digits, octal_digits};
 use crate::number::value;
@@ -35,7 +35,7 @@ fn small_byte(value: Option<u64>) -> u8
 }
 
 /// The byte that the escape behind a `\` stands for.
-fn escape_byte(rest: &[u8]) -> u8
+pub(crate) fn escape_byte(rest: &[u8]) -> u8
     ensures { result ≡ escape_byte rest.now }
 {
     let [first, after @ ..] = rest else {
@@ -64,7 +64,8 @@ fn constant_byte(rest: &[u8]) -> u8
 
 /// The byte that a character constant stands for.
 pub fn char_value(bytes: &[u8]) -> u8
-    ensures { (v : ℕ) → IsConstant bytes.now v → result ≡ v }
+    ensures value { (v : ℕ) → IsConstant bytes.now v → result ≡ v }
+    ensures computed { result ≡ byte_of bytes.now }
 {
     match bytes {
         [] => 0,

@@ -2,7 +2,7 @@ ghost use Rattle.std.specs.Prelude.{◌≡◌, ℕ, ◌+◌, ◌<◌, ◌≤◌,
 ghost use Rattle.std.specs.List.{list_all, prefix_len};
 ghost use Rattle.al_lex.specs.Bytes.{is_hex, is_octal, is_digit, digit_value, value_of};
 ghost use Rattle.al_lex.specs.Pieces.{IsNumber};
-ghost use Rattle.al_lex.specs.Values.{kind_of_value};
+ghost use Rattle.al_lex.specs.Values.{kind_of_value, number_of};
 ghost use Rattle.al_lex.specs.Scan.{numeral, scan_number, fitting};
 
 use crate::class::{digits, first_is, hex_digits, octal_digits};
@@ -101,7 +101,8 @@ pub(crate) fn scan_number(rest: &[u8]) -> Result<Found, Flaw>
 
 /// The value of a number as written, if it is below 2^64.
 pub fn number_value(bytes: &[u8]) -> Option<u64>
-    ensures { (v : ℕ) → IsNumber bytes.now v → result ≡ fitting v }
+    ensures value { (v : ℕ) → IsNumber bytes.now v → result ≡ fitting v }
+    ensures computed { result ≡ number_of bytes.now }
 {
     let number = leading_numeral(bytes);
     value(number.base, number.digits)

@@ -4,6 +4,7 @@ use crate::fault::{LexFault, LexReason, LexStop};
 use crate::kind::TokenKind as K;
 use crate::number::{number_kind, number_value};
 use crate::reading::{lex, next};
+use crate::text::text_bytes;
 use crate::token::Token;
 use al_base::{Kind, Place};
 use std::alloc::Global;
@@ -384,6 +385,22 @@ fn numbers_and_constants_have_values(rt: HostRuntime) {
     assert_eq!(rt; char_value(b"'\\''"), 39);
     assert_eq!(rt; char_value(b"'\\377'"), 255);
     assert_eq!(rt; char_value(b"'\\x4a'"), 74);
+}
+
+#[test]
+fn strings_have_bytes(rt: HostRuntime) -> Result<(), Fail> {
+    let table: [(&[u8], &[u8]); 6] = [
+        (b"\"\"", b""),
+        (b"\"ab\"", b"ab"),
+        (b"\"a\\n\\\"b\"", b"a\n\"b"),
+        (b"\"\\x414\\x4g\"", b"A4\x04g"),
+        (b"\"\\1018\\4001\"", b"A8 01"),
+        (b"\"\\0\xff\"", b"\0\xff"),
+    ];
+    for (text, bytes) in table {
+        assert_eq!(rt; text_bytes(rt.alloc(), text)?.as_slice(), bytes);
+    }
+    Ok(())
 }
 
 #[test]

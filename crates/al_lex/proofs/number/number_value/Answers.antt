@@ -9,4 +9,6 @@ pub value-requires-clause-digits : goal.value-requires-clause-digits
 value-requires-clause-digits c = rw c.leading_numeral-number.ensures.digits (numeral_hex c.args.bytes.now)
 
 pub returns : goal.returns
-returns c v d = c.value.ensures ∙ ap fitting (ap₂ value_of c.leading_numeral-number.ensures.base c.leading_numeral-number.ensures.digits ∙ whole_value c.args.bytes.now v d)
+returns c =
+    let computed = c.value.ensures ∙ ap fitting (ap₂ value_of c.leading_numeral-number.ensures.base c.leading_numeral-number.ensures.digits) in
+    record { value = λ v d. computed ∙ ap fitting (whole_value c.args.bytes.now v d); computed = computed }

@@ -1,0 +1,5 @@
+use Rattle.std.proofs.Common.{length}
+use Rattle.al_script.proofs.asks.+add_branches.Given as goal
+
+abbrev pub decreases-add_branches : goal.decreases-add_branches
+decreases-add_branches l = length l.choices.now

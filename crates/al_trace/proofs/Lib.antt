@@ -1,0 +1,5 @@
+pub mod BadLines
+pub mod Digits
+pub mod FromHost
+pub mod Told
+pub mod Unique

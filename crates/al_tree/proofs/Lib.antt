@@ -1,0 +1,5 @@
+pub mod Turns
+pub mod Law
+pub mod Verdicts
+pub mod ConstantsAre
+pub mod Numbered

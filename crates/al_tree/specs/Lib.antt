@@ -1,0 +1,11 @@
+pub mod Words
+pub mod Types
+pub mod Expressions
+pub mod Statements
+pub mod Items
+pub mod Leaves
+pub mod Reading
+pub mod Correct
+pub mod Tree
+pub mod Integers
+pub mod Constants

@@ -1,0 +1,13 @@
+pub mod Answering
+pub mod Bounds
+pub mod Calling
+pub mod Ending
+pub mod Examples
+pub mod Fitting
+pub mod Propriety
+pub mod Reading
+pub mod Results
+pub mod Room
+pub mod Staying
+pub mod Stepping
+pub mod Values

@@ -1,0 +1,11 @@
+pub mod Hart
+pub mod Words
+pub mod Windows
+pub mod Calls
+pub mod Step
+pub mod Machine
+pub mod Seen
+pub mod Answers
+pub mod Shown
+pub mod Laws
+pub mod Proper

@@ -1,0 +1,12 @@
+pub mod Listing
+pub mod Running
+pub mod Numbers
+pub mod Products
+pub mod Shifts
+pub mod Signs
+pub mod Division
+pub mod Integers
+pub mod Pieces
+pub mod Quotients
+pub mod Wholes
+pub mod Contracts
