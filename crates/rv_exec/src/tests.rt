@@ -209,3 +209,21 @@ fn loops_for_ever(rt: HostRuntime) -> Result<(), NoMemory> {
     assert!(rt; traps);
     Ok(())
 }
+
+/// Four instructions, 2^24 times over, and then End.
+#[test]
+fn a_hot_loop(rt: HostRuntime) -> Result<(), NoMemory> {
+    let code = [
+        0x0100_0337, // lui x6, 0x1000
+        0x0012_8293, // addi x5, x5, 1
+        0x0053_83b3, // add x7, x7, x5
+        0x0053_ce33, // xor x28, x7, x5
+        0xfe62_9ae3, // bne x5, x6, -12
+        0x0010_0893, // addi x17, x0, 1
+        0x0000_0073, // ecall
+    ];
+    let got = first_ask(&rt, rt.alloc(), &code)?;
+    let ends = matches!(&got, Some((Act::End, 67_108_867)));
+    assert!(rt; ends);
+    Ok(())
+}
