@@ -1,5 +1,5 @@
 -- Runs along more and more entries of a schedule.
-use Rattle.std.proofs.Common.{ℕ, zero, suc, ◌+◌, ◌≡◌, arith, List, [], ◌∷◌, take, slice_get, Option, Some, option_and_then, sym, ap, subst, ◌∙◌}
+use Rattle.std.proofs.Common.{ℕ, zero, suc, ◌+◌, ◌≡◌, arith, List, [], ◌∷◌, take, slice_get, Option, Some, option_and_then, ap, subst, ◌∙◌}
 use Rattle.std.proofs.lemmas.Option.{same_Some}
 use Rattle.al_event.specs.declared.entry.Entry.{Entry}
 use Rattle.al_world.specs.World.{World}

@@ -1,11 +1,11 @@
 -- Entries of a world in lists.
-use Rattle.std.proofs.Common.{ℕ, ◌≡◌, List, map, Bool, true, false, IsTrue, ◌↔◌, Option, Some, None, option_map, sym, ap, subst, ◌∙◌}
+use Rattle.std.proofs.Common.{ℕ, ◌≡◌, List, map, true, false, IsTrue, ◌↔◌, Option, Some, option_map, sym, ap, subst, ◌∙◌}
 use Rattle.al_event.specs.declared.act.Act.{Act}
 use Rattle.al_world.specs.World as world
 use Rattle.al_world.specs.World.{TaskName, Shared, at_task, told}
 use Rattle.al_world.specs.Control.{Asked}
 use Rattle.al_world.specs.Actions.{performs}
-use Rattle.al_world.specs.Step.{counted, after, step_asked, step_held}
+use Rattle.al_world.specs.Step.{counted, after, step_held}
 use Rattle.al_script.specs.declared.script.Instruction.{Instruction}
 use Rattle.al_script.specs.declared.script.Control.{Control}
 use Rattle.al_script.specs.declared.world.Held.{Held}

@@ -2,7 +2,6 @@
 use Rattle.std.proofs.Common.{◌≡◌, Bool, true, false, cond, List, [], ◌∷◌, refl}
 use Rattle.al_world.specs.World.{TaskName, same_task}
 use Rattle.al_script.specs.declared.script.Instruction.{Instruction}
-use Rattle.al_script.specs.declared.world.Held.{Held}
 use Rattle.al_script.specs.declared.world.Change.{Change}
 use Rattle.al_script.specs.Worlds.{held_of, held_at, tasks_of}
 

@@ -1,5 +1,5 @@
 -- The world that a program's lists stand for.
-use Rattle.std.specs.Prelude.{ℕ, ◌+◌, ◌<◌, ◌^◌, Bool, true, false, if◌then◌else◌, List, [], ◌∷◌, length, map}
+use Rattle.std.specs.Prelude.{ℕ, ◌+◌, ◌<◌, ◌^◌, if◌then◌else◌, List, [], ◌∷◌, length, map}
 use Rattle.al_event.specs.declared.act.Act.{Act}
 use Rattle.al_event.specs.declared.act.Act.TheVariants.{Talk}
 use Rattle.al_world.specs.World as world
@@ -81,10 +81,6 @@ effect_of m e = record { shared = shared_of m e.state; told = map message_of e.t
 abbrev pub branches_in : Act → ℕ
 branches_in (Talk branches) = length branches
 branches_in _ = 0
-
-abbrev pub is_talk : Act → Bool
-is_talk (Talk branches) = true
-is_talk _ = false
 
 -- so few entries, tasks, procs, channels and branches that an entry of this task by this action brings none of their
 -- numbers past 32 bits

@@ -3,7 +3,7 @@
 ghost use Rattle.std.specs.Prelude.{◌≡◌, option_map, IfOk};
 ghost use Rattle.al_world.specs.Actions.{acts, performs};
 ghost use Rattle.al_script.specs.Scripts.{IsSized};
-ghost use Rattle.al_script.specs.Worlds.{shared_of, effect_of, Fits, is_talk};
+ghost use Rattle.al_script.specs.Worlds.{shared_of, effect_of, Fits};
 
 use crate::chans::{asks_recv, asks_send, frees_chan, makes_chan};
 use crate::effects::{answer_nothing, at_zero, ended_by, trapped};

@@ -1,6 +1,6 @@
 // What a task asks next.
 
-ghost use Rattle.std.specs.Prelude.{◌≡◌, ◌++◌, map, length, slice_get, IfOk, OnOk};
+ghost use Rattle.std.specs.Prelude.{◌≡◌, ◌++◌, map, IfOk, OnOk};
 ghost use Rattle.std.specs.Option.{option_copied};
 ghost use Rattle.al_script.specs.Scripts.{source_word, value_of, values_of, byte_of, size_of, branch_of, start_of, act_at, next_of, act_of, IsSized};
 

@@ -1,6 +1,6 @@
 // Answers, cut to the size that their action has.
 
-ghost use Rattle.std.specs.Prelude.{◌≡◌, ◌++◌, ◌<◌, ◌≤◌, ◌^◌, [], ◌∷◌, drop, length, slice_get, slice_index, IfOk, OnOk};
+ghost use Rattle.std.specs.Prelude.{◌≡◌, ◌++◌, ◌<◌, ◌^◌, drop, slice_get, slice_index, IfOk, OnOk};
 ghost use Rattle.al_world.specs.Control.{cut, received_by, talk_answer, branch_in, fitted};
 ghost use Rattle.al_store.specs.Memory.{IsWidth};
 ghost use Rattle.al_script.specs.Scripts.{IsSized};

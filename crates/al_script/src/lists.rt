@@ -1,6 +1,6 @@
 // Lists whose newest element stands first, and copies of controls.
 
-ghost use Rattle.std.specs.Prelude.{◌≡◌, [], ◌∷◌, IfOk, slice_get, slice_index};
+ghost use Rattle.std.specs.Prelude.{◌≡◌, ◌∷◌, IfOk, slice_index};
 
 use crate::script::Control;
 use crate::world::Held;

@@ -1,6 +1,6 @@
 // Tasks that start and end.
 
-ghost use Rattle.std.specs.Prelude.{◌≡◌, ◌++◌, ◌+◌, ◌<◌, ◌≤◌, ◌^◌, [], ◌∷◌, length, map, None, Some, IfOk, OnOk};
+ghost use Rattle.std.specs.Prelude.{◌≡◌, ◌++◌, ◌+◌, ◌<◌, ◌^◌, length, map, IfOk, OnOk};
 ghost use Rattle.al_event.specs.declared.act.Act.TheVariants.{Proc, Task, Par, End};
 ghost use Rattle.al_world.specs.Procs.{leaves_ready, live_tasks};
 ghost use Rattle.al_world.specs.Actions.{acts, begins_from, procs_from, counts_from, starts_procs, starts_task, next_task, join_told, first_task};

@@ -1,6 +1,6 @@
 // Talks: sends, receives and alts.
 
-ghost use Rattle.std.specs.Prelude.{◌≡◌, ◌++◌, ◌<◌, ◌^◌, [], ◌∷◌, length, map, option_map, true, IfOk};
+ghost use Rattle.std.specs.Prelude.{◌≡◌, ◌<◌, ◌^◌, ◌∷◌, length, map, option_map, true, IfOk};
 ghost use Rattle.al_world.specs.World.{Answered};
 ghost use Rattle.al_world.specs.Actions.{goes_or_waits, talk_of, talks, wakes, wake_told, waits_for};
 ghost use Rattle.al_script.specs.Worlds.{shared_of, effect_of, message_of};

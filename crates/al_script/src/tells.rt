@@ -1,7 +1,7 @@
 // What an entry tells the tasks.
 
 ghost use Rattle.std.specs.Prelude.{◌≡◌, [], ◌∷◌, map, IfOk};
-ghost use Rattle.al_world.specs.World.{told_one, told, at_task};
+ghost use Rattle.al_world.specs.World.{told_one, told};
 ghost use Rattle.al_script.specs.Scripts.{scripts, answered, begun};
 ghost use Rattle.al_script.specs.Worlds.{held_of, held_at, tasks_of, told_of, message_of};
 

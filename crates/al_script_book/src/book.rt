@@ -1,9 +1,8 @@
 // Channels and the waiting list, as plain lists.
 
-ghost use Rattle.std.specs.Prelude.{◌≡◌, ◌++◌, ◌+◌, ◌<◌, ◌^◌, [], ◌∷◌, length, slice_get, IfOk, OnOk};
+ghost use Rattle.std.specs.Prelude.{◌≡◌, IfOk};
 ghost use Rattle.std.specs.Option.{option_copied};
-ghost use Rattle.al_world.specs.Channels.{channel, is_bad, has_bad, is_open, is_opposite, is_usable, is_waited_for, new_channel};
-ghost use Rattle.al_world.specs.World.{same_talker, same_task};
+ghost use Rattle.al_world.specs.Channels.{channel, is_bad, has_bad, is_open, is_opposite, is_waited_for, new_channel};
 
 use crate::copies::copy_branch;
 use crate::names::TalkName;

@@ -1,7 +1,7 @@
 // A channel made, given up, and asked.
 
-ghost use Rattle.std.specs.Prelude.{◌≡◌, ◌+◌, ◌<◌, ◌^◌, [], ◌∷◌, Some, None, Ok, Err, IsTrue, length, IfOk, IfErr, OnOk, OnErr};
-ghost use Rattle.al_world.specs.Channels.{Channel as TheChannel, channel, with_channel, held_of, ready, is_some_ready, makes, next_number, gives_up, could_go, can_recv, can_send};
+ghost use Rattle.std.specs.Prelude.{◌≡◌, ◌+◌, ◌<◌, ◌^◌, Ok, Err, length, IfOk, IfErr, OnOk, OnErr};
+ghost use Rattle.al_world.specs.Channels.{channel, held_of, ready, is_some_ready, makes, next_number, gives_up, could_go, can_recv, can_send};
 ghost use Rattle.al_world.specs.Talks.{Lost};
 
 use crate::book::{Book, Channel};

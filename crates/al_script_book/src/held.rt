@@ -1,6 +1,6 @@
 // The values that a channel holds.
 
-ghost use Rattle.std.specs.Prelude.{◌≡◌, ◌++◌, ◌<◌, [], ◌∷◌, drop, length, slice_get, slice_set, IfOk};
+ghost use Rattle.std.specs.Prelude.{◌≡◌, ◌++◌, ◌<◌, [], ◌∷◌, drop, length, slice_set, IfOk};
 ghost use Rattle.al_world.specs.Channels.{Channel as TheChannel, channel, with_channel, held_of};
 ghost use Rattle.al_world.specs.Talks.{with_held};
 

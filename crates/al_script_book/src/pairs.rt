@@ -1,8 +1,8 @@
 // What can go: the pairs of a talk.
 
-ghost use Rattle.std.specs.Prelude.{◌≡◌, ◌++◌, ◌+◌, ◌<◌, ◌^◌, [], ◌∷◌, Some, None, map, filter, not, length, IfOk, OnOk};
+ghost use Rattle.std.specs.Prelude.{◌≡◌, ◌++◌, ◌+◌, ◌<◌, ◌^◌, [], Some, map, length, IfOk, OnOk};
 ghost use Rattle.al_world.specs.Channels.{Offer as TheOffer, channel, opposites, pair, pairs_at, pairs_from, ready};
-ghost use Rattle.al_world.specs.World.{TalkName as Name, same_talker};
+ghost use Rattle.al_world.specs.World.{TalkName as Name};
 
 use crate::book::{Book, Channel, Offer, is_opposite};
 use crate::copies::copy_branch;

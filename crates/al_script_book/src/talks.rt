@@ -1,8 +1,8 @@
 // What a talk does that goes, and one that blocks.
 
-ghost use Rattle.std.specs.Prelude.{◌≡◌, ◌++◌, ◌+◌, ◌<◌, ◌^◌, [], ◌∷◌, Some, None, filter, not, drop, length, slice_get, ◌==◌, IfOk, OnOk};
-ghost use Rattle.al_world.specs.Channels.{Channel as TheChannel, Offer as TheOffer, channel, with_channel, held_of, opposites};
-ghost use Rattle.al_world.specs.Talks.{words_of, withdraws, meets, hands_over, puts_in, takes_out, lets_in, sends, receives, by_buffer, goes_with, fires, offers_from, blocks};
+ghost use Rattle.std.specs.Prelude.{◌≡◌, ◌<◌, ◌^◌, Some, None, length, IfOk};
+ghost use Rattle.al_world.specs.Channels.{channel};
+ghost use Rattle.al_world.specs.Talks.{words_of, meets, hands_over, puts_in, takes_out, lets_in, sends, receives, by_buffer, goes_with, fires};
 ghost use Rattle.al_world.specs.World.{TalkName as Name, same_talker};
 
 use crate::book::{Book, Offer};
