@@ -1,0 +1,9 @@
+pub mod Paths
+pub mod Rows
+pub mod Waiting
+pub mod Steps
+pub mod Kept
+pub mod Along
+pub mod Pairs
+pub mod One
+pub mod Tasks
