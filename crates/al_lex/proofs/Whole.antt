@@ -1,5 +1,5 @@
 -- The tokens of a cutting lie in the text, in order, and the last of them alone is the End token.
-use Rattle.std.proofs.Common.{◌≡◌, ◌≢◌, ℕ, zero, suc, ◌+◌, ◌≤◌, Bool, true, false, not, List, [], ◌∷◌, ◌++◌, length, refl, sym, ap, ◌∙◌, subst, arith, length-append, All}
+use Rattle.std.proofs.Common.{◌≡◌, ◌≢◌, ℕ, zero, suc, ◌+◌, ◌≤◌, ◌<◌, ◌^◌, Bool, true, false, not, List, [], ◌∷◌, ◌++◌, length, refl, sym, ap, ◌∙◌, subst, arith, length-append, All}
 use Rattle.al_lex.specs.declared.kind.TokenKind.{TokenKind}
 use Rattle.al_lex.specs.declared.kind.TokenKind.TheVariants as k
 use Rattle.al_lex.specs.declared.kind.PieceKind.{PieceKind}
@@ -11,6 +11,7 @@ use Rattle.al_lex.specs.Cut.{IsNext, Piece, Pieces, none, next, joined, is_fresh
 use Rattle.al_lex.specs.Written.{end_token, tokens_from, first_seen, names_of, IsCutInto}
 use Rattle.al_lex.specs.TokenList.{IsTokenList}
 use Rattle.al_lex.proofs.Tables.{all_in}
+use Rattle.al_lex.proofs.Scanned.{some_byte}
 
 -- ---- no piece is an End token
 
@@ -72,15 +73,29 @@ good text names none l = tt
 good text names (next {before = before} {u = u} {rest = rest} {kind = kind} {more = more} d m) l =
     good_piece text names before u (joined more ++ rest) kind more d (omega (arith, l, length-append u (joined more))) (good text names m (omega (arith, l, length-append u (joined more), length-append before u)))
 
-pub token_list : (text : List ℕ) (tokens : List Token) → IsCutInto text tokens → IsTokenList (record { list = tokens; text = text })
-token_list text tokens d =
+-- ---- there are no more tokens than bytes, and the End token
+
+few_piece : (names : List (List ℕ)) (before u rest : List ℕ) (kind : PieceKind) (more : List Piece) → IsNext (is_fresh before) kind u rest → length (tokens_from names (before ++ u) more) ≤ length (joined more) → length (tokens_from names before ((kind, u) ∷ more)) ≤ length (u ++ joined more)
+few_piece names before u rest p.Blank more d l = omega (arith, l, length-append u (joined more))
+few_piece names before u rest p.Comment more d l = omega (arith, l, length-append u (joined more))
+few_piece names before u rest p.Skipped more d l = omega (arith, l, length-append u (joined more))
+few_piece names before u rest (p.Token kind) more d l = omega (arith, l, some_byte d.longest.is, length-append u (joined more))
+
+few : (names : List (List ℕ)) {before : List ℕ} {ps : List Piece} {rest : List ℕ} → Pieces before ps rest → length (tokens_from names before ps) ≤ length (joined ps)
+few names none = omega arith
+few names (next {before = before} {u = u} {rest = rest} {kind = kind} {more = more} d m) = few_piece names before u (joined more ++ rest) kind more d (few names m)
+
+pub token_list : (text : List ℕ) (tokens : List Token) → IsCutInto text tokens → length text ≤ 2 ^ 20 → IsTokenList (record { list = tokens; text = text })
+token_list text tokens d short =
     let front = tokens_from (first_seen (names_of d.pieces)) [] d.pieces in
     let last = end_token (joined d.pieces) in
     let len = ap length d.cut.covers in
     let each = good text (first_seen (names_of d.pieces)) d.cut.each (omega (arith, len)) in
     let ordered = each_last (λ t. t.from ≤ t.to) front last (each_map (Good text) (λ t. t.from ≤ t.to) (λ t g. g.ordered) front each) (omega arith) in
     let within = each_last (λ t. t.to ≤ length text) front last (each_map (Good text) (λ t. t.to ≤ length text) (λ t g. g.within) front each) (omega (arith, len)) in
+    let count : length tokens ≤ length text + 1 = omega (arith, len, ap length d.is, length-append front (last ∷ []), few (first_seen (names_of d.pieces)) d.cut.each) in
     record {
+      few = omega (arith, count, short);
       ended = record { front = front; last = last; is = d.is; last_is_end = refl; no_other = all_of (λ t. t.kind ≢ k.End) front (each_map (Good text) (λ t. t.kind ≢ k.End) (λ t g. g.kind) front each) };
       ordered = subst (All (λ (t : Token). t.from ≤ t.to)) (sym d.is) (all_of (λ t. t.from ≤ t.to) (front ++ last ∷ []) ordered);
       within = subst (All (λ (t : Token). t.to ≤ length text)) (sym d.is) (all_of (λ t. t.to ≤ length text) (front ++ last ∷ []) within);

@@ -1,5 +1,5 @@
 -- What contracts see of the tokens of a text.
-use Rattle.std.specs.Prelude.{◌≡◌, ◌≢◌, ℕ, ◌≤◌, List, [], ◌∷◌, ◌++◌, Option, Some, None, length, slice_get, slice_range, All}
+use Rattle.std.specs.Prelude.{◌≡◌, ◌≢◌, ℕ, ◌≤◌, ◌<◌, ◌^◌, List, [], ◌∷◌, ◌++◌, Option, Some, None, length, slice_get, slice_range, All}
 use Rattle.al_lex.specs.declared.token.Token.{Token}
 use Rattle.al_lex.specs.declared.kind.TokenKind.TheVariants as k
 
@@ -20,6 +20,7 @@ pub record IsTokenList (tokens : TokenList) : Type 0 where
   pub ended : IsEnded tokens.list
   pub ordered : All (λ t. t.from ≤ t.to) tokens.list
   pub within : All (λ t. t.to ≤ length tokens.text) tokens.list
+  pub few : length tokens.list < 2 ^ 32
 
 -- the bytes of a token
 abbrev pub bytes_of : List ℕ → Token → List ℕ

@@ -7,5 +7,6 @@ pub mod Leaves
 pub mod Reading
 pub mod Correct
 pub mod Tree
+pub mod Parts
 pub mod Integers
 pub mod Constants

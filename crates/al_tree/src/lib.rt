@@ -9,6 +9,7 @@ mod expression;
 mod fault;
 mod integer;
 mod item;
+mod part;
 mod statement;
 mod type_names;
 mod type_tree;
@@ -22,6 +23,7 @@ pub use item::{
     AdtMember, AdtPart, AggregateKind, Constant, Declarator, Head, Initializer, Item, Member,
     Owner, Parameter, Scope, Tree,
 };
+pub use part::{token_number, tokens_from};
 pub use statement::{Stmt, Variable};
 pub use type_names::TypeNames;
 pub use type_tree::{BasicType, Bound, BoundOp, Dcl, TypeTree};

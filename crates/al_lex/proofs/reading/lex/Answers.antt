@@ -30,7 +30,7 @@ pub new-requires : goal.new-requires
 new-requires c =
     let list = c.in_ok-push.ensures.items ∙ ap (λ t. c.loop-here.list.items ++ t ∷ []) c.token_between.ensures in
     let whole = read_all c.args.text.now c.loop-here.names c.loop-here.list.items c.loop-here.here c.loop-here.invariant c.loop-here-test.false in
-    let is = subst (λ (l : List Token). IsTokenList (record { list = l; text = c.args.text.now })) (sym list) (token_list c.args.text.now _ whole) in
+    let is = subst (λ (l : List Token). IsTokenList (record { list = l; text = c.args.text.now })) (sym list) (token_list c.args.text.now _ whole c.requires) in
     subst (λ (l : List ℕ). IsTokenList (record { list = c.push.new.self.items; text = l })) (sym c.in_ok-from_slice.ensures.items) is
 
 pub returns-clause-tokens : goal.returns-clause-tokens

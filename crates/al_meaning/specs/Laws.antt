@@ -1,0 +1,18 @@
+-- Laws on the meaning of programs.
+use Rattle.std.specs.Prelude.{ℕ, List, ⊤}
+use Rattle.al_world.specs.Turns.{Moves, Turns, Asks, to_turn}
+use Rattle.al_typed.specs.declared.program.Program.{Program}
+use Rattle.al_meaning.specs.Items.{Control}
+use Rattle.al_meaning.specs.Step.{Next, private_step}
+use Rattle.al_meaning.specs.Weight.{control_weight}
+
+-- a turn or an action, and no step on the way to one
+abbrev pub IsTurnOrAction : Next → Type 0
+IsTurnOrAction (Moves _ _) = ⊥
+IsTurnOrAction (Turns _ _ _) = ⊤
+IsTurnOrAction (Asks _ _ _ _) = ⊤
+
+-- From every control the private steps that `ask` looks at come to a turn or an action: none goes on for ever in between.
+abbrev pub ComeToActions : Type 0
+ComeToActions =
+    (p : Program) (c : Control) (privates : List ℕ) → IsTurnOrAction (to_turn (private_step p) (control_weight p) (control_weight p c) c privates)

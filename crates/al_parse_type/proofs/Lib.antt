@@ -1,0 +1,9 @@
+pub mod Ranges
+pub mod Arrays
+pub mod BoundLaw
+pub mod BoundComplete
+pub mod TypeLaw
+pub mod TypeComplete
+pub mod TypeWhole
+pub mod BaseWhole
+pub mod Parts

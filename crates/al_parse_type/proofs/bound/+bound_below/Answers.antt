@@ -1,0 +1,13 @@
+use Rattle.std.proofs.Common.{◌≡◌, ap, arith}
+use Rattle.al_tree.specs.Leaves.{leaves_of}
+use Rattle.al_tree.proofs.Turns.{deeper}
+use Rattle.al_parse_type.specs.Parse.{bound_below}
+use Rattle.al_parse_type.proofs.bound.+bound_below.Goals as goal
+
+pub returns-then-depth-eq0-clause-reads : goal.returns-then-depth-eq0-clause-reads
+unfolding bound_below
+returns-then-depth-eq0-clause-reads t c _ = let none : c.args.depth ≡ 0 = omega arith in ap (λ n. bound_below (leaves_of c.args.text.now) c.args.types.now c.args.turns n c.args.tokens.now) none
+
+pub returns-clause-reads : goal.returns-clause-reads
+unfolding bound_below
+returns-clause-reads t c = rw (deeper (λ n. bound_below (leaves_of c.args.text.now) c.args.types.now c.args.turns n c.args.tokens.now) c.args.depth (omega arith)) c.bound_at.ensures.reads

@@ -1,0 +1,4 @@
+pub mod Parse
+pub mod Nests
+pub mod Within
+pub mod Calls

@@ -1,0 +1,111 @@
+//! Types and parts of types with at most `depth` levels, for the parsers of what has types in it.
+ghost use Rattle.std.specs.Prelude.{◌<◌, ◌≤◌, IfOk};
+ghost use Rattle.al_tree.specs.Leaves.{leaves_of};
+ghost use Rattle.al_tree.specs.Reading.{Reads};
+ghost use Rattle.al_parse_type.specs.Within as spec;
+
+use crate::base::Types;
+use crate::part::ReadBase;
+use crate::types::below;
+use al_base::Place;
+use al_tree::{Cursor, ParseError, TypeNames, TypeTree};
+use std::alloc::Global;
+
+/// A type.
+pub fn type_within(
+    alloc: Global,
+    text: &[u8],
+    types: &TypeNames,
+    turns: usize,
+    depth: u32,
+    tokens: &mut Cursor<'_>,
+) -> Result<(TypeTree, u32), ParseError>
+    requires depth { depth < 999 }
+    ensures reads { Reads (spec.type_within (leaves_of text.now) types.now turns depth tokens.old) result tokens.new }
+    ensures low { IfOk result (λ x. x.1 ≤ depth) }
+{
+    let rules = Types {
+        alloc,
+        text,
+        types,
+        turns,
+        depth,
+        nested: below,
+    };
+    rules.type_at(true, tokens)
+}
+
+/// A base type with stars, in which a tuple that is not inside `chan( )` has its word.
+pub fn starred_within(
+    alloc: Global,
+    text: &[u8],
+    types: &TypeNames,
+    turns: usize,
+    depth: u32,
+    tokens: &mut Cursor<'_>,
+) -> Result<(TypeTree, u32), ParseError>
+    requires depth { depth < 999 }
+    ensures reads { Reads (spec.starred_within (leaves_of text.now) types.now turns depth tokens.old) result tokens.new }
+    ensures low { IfOk result (λ x. x.1 ≤ depth) }
+{
+    let rules = Types {
+        alloc,
+        text,
+        types,
+        turns,
+        depth,
+        nested: below,
+    };
+    rules.starred_at(false, tokens)
+}
+
+/// A base type.
+pub fn base_within(
+    alloc: Global,
+    text: &[u8],
+    types: &TypeNames,
+    turns: usize,
+    depth: u32,
+    tokens: &mut Cursor<'_>,
+) -> Result<ReadBase, ParseError>
+    requires depth { depth < 999 }
+    ensures reads { Reads (spec.base_within (leaves_of text.now) types.now turns depth tokens.old) result tokens.new }
+    ensures low { IfOk result (λ x. x.height ≤ depth) }
+{
+    let rules = Types {
+        alloc,
+        text,
+        types,
+        turns,
+        depth,
+        nested: below,
+    };
+    rules.base_at(true, tokens)
+}
+
+/// The tuple at that place, behind the first type in its parentheses.
+pub fn tuple_within(
+    alloc: Global,
+    text: &[u8],
+    types: &TypeNames,
+    turns: usize,
+    depth: u32,
+    at: Place,
+    first: (TypeTree, u32),
+    tokens: &mut Cursor<'_>,
+) -> Result<ReadBase, ParseError>
+    requires depth { depth < 999 }
+    requires height { first.1 < depth }
+    ensures reads { Reads (spec.tuple_within (leaves_of text.now) types.now turns depth at first tokens.old) result tokens.new }
+    ensures low { IfOk result (λ x. x.height ≤ depth) }
+{
+    let rules = Types {
+        alloc,
+        text,
+        types,
+        turns,
+        depth,
+        nested: below,
+    };
+    rules.tuple_after(true, at, first, tokens)
+}

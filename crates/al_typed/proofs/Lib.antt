@@ -1,0 +1,15 @@
+pub mod CappedLemmas
+pub mod Layouts
+pub mod Fitting
+pub mod Placing
+pub mod Depths
+pub mod Completeness
+pub mod Rows
+pub mod Unions
+pub mod Tallies
+pub mod Typing
+pub mod Steps
+pub mod StatementTallies
+pub mod Sums
+pub mod ValueRules
+pub mod StatementRules

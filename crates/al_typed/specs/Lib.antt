@@ -1,0 +1,11 @@
+pub mod TyFold
+pub mod Types
+pub mod Capped
+pub mod Layout
+pub mod ExpressionForms
+pub mod StatementForms
+pub mod Typed
+pub mod WellTyped
+pub mod Measures
+pub mod Examples
+pub mod MeasureExamples
