@@ -1,2 +1,12 @@
 pub mod Lighter
 pub mod Total
+pub mod Does
+pub mod Places
+pub mod Expressions
+pub mod Ways
+pub mod Clauses
+pub mod Loops
+pub mod Statements
+pub mod Jumps
+pub mod Functions
+pub mod Endings

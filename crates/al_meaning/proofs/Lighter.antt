@@ -34,7 +34,7 @@ use Rattle.al_meaning.specs.Places.{function_at, locals_of, has_block, words_in}
 use Rattle.al_meaning.specs.Shown.{most_text, written}
 use Rattle.al_meaning.specs.Items.{Found, Words, Address, Local, Private, Nowhere, Argument, Bounds, Work, Eval, Find, Aim, Answered, Give, Drop, Unary, Negate, Binary, AndThen, OrElse, Truth, Advance, AdvanceCounted, Between, Convert, Part, Join, Point, Index, Within, AddressOf, Read, Look, Fetch, Fetched, Save, Put, Write, Assign, Update, Step, Clear, PassPlace, PassPointer, PassPart, Invoke, InvokePointer, Enter, InvokeInstead, Replace, TakeBlock, SetBlock, StoreParameter, Returns, CountReturn, Leave, Gather, Compose, Scan, Scanned, Terminates, Receives, Received, Sends, CanReceives, CanSends, Allocate, Unallocate, StartProc, StartTask, Do, Choose, Test, WhileTest, WhileAgain, DoCondition, DoTest, ForCondition, ForTest, ForNext, ForAgain, Bound, Iterate, NextTurn, Select, AltTalk, AltWent, CasesEnd, Item, Frame, Entering, Control}
 use Rattle.al_meaning.specs.Parts.{Border, Inside, LoopEnd, BodyEnd, border, exprs, targets, receiver_of, other_of, item, to_do, statements, behind_bodies, next_of_loop, behind_case, behind_default, Branching, branchings, first_of_two}
-use Rattle.al_meaning.specs.Step.{Here, here, Next, control_at, with_items, with_found, with_work, moves, does, function_here, value_taken, with_value, with_two, place_taken, with_place, at_address, with_address, words_before, places_before, pointee, units_in, drops, evaluated, object_work, object_count, call_work, joined, parameter_work, block_work, begun_function, begun, line_of_name, has_room, enters, named_by, invokes_found, with_given, leaves, gives_block, ends, default_of, local_found, gives_block, find_place, aim_at, read_place, fetch_units, save_at, write_units, saves, updated, saves_updated, passes_place, passes_part, and_dropped, eval, composes, compose, scanned, communications, alt_exprs, went_work, goes_into, allocates, gives_back, jumps, target_items, initializer_work, bounds_exprs, allocation_work, unallocation_work, optionally, do_statement, while_test, do_condition, for_condition, for_test, for_next, bounds_of, iterate, selects, select, cases_of, gives_quotient, store_parameter, step_work, step_frame, step_frames, step_entering, private_step, leaves_of, leaves_of_all}
+use Rattle.al_meaning.specs.Step.{Here, here, Next, control_at, with_items, with_found, with_work, moves, does, function_here, value_taken, with_value, with_two, place_taken, with_place, at_address, with_address, words_before, places_before, pointee, units_in, drops, evaluated, object_work, object_count, call_work, joined, parameter_work, block_work, begun_function, begun, line_of_name, has_room, enters, named_by, invokes_found, with_given, leaves, gives_block, ends, default_of, local_found, gives_block, find_place, aim_at, read_place, fetch_units, save_at, write_units, saves, updated, saves_updated, passes_place, passes_part, and_dropped, eval, composes, compose, scanned, communications, alt_exprs, went_work, goes_into, allocates, gives_back, initializer_work, bounds_exprs, allocation_work, unallocation_work, optionally, do_statement, while_test, do_condition, for_condition, for_test, for_next, bounds_of, iterate, selects, select, cases_of, gives_quotient, store_parameter, step_work, step_frame, step_frames, step_entering, private_step, leaves_of, leaves_of_all}
 use Rattle.al_meaning.specs.Weight.{expr_weight, place_weight, target_weight, targets_weight, receiver_weight, row_weight, optional_weight, listed_weight, places_weight, bounds_weight, initializers_weight, communication_weight, statement_weight, other_weight, body_weight, else_weight, rest_of_while, rest_of_do, next_of_for, body_of_for, condition_of_for, cases_weight, own_weight, own_weights, begun_weight, work_weight, items_weight, frame_weight, frames_weight, entering_weight, control_weight}
 
 abbrev Falls : Program → ℕ → Next → Type 0
@@ -280,10 +280,6 @@ falls_more p n m (Moves c u) le f = omega (arith, le, f)
 falls_more p n m (Turns line c u) le f = tt
 falls_more p n m (Asks a line c u) le f = tt
 
-jumps_light : (h : Here) (n : ℕ) (o : Option (List Item)) → Falls h.program n (jumps h o)
-jumps_light h n (Some items) = tt
-jumps_light h n None = tt
-
 initializers_light : (p : Program) (is : List TInitializer) → works_weight p (flat_map initializer_work is) ≤ initializers_weight is
 unfolding work_weight own_weight
 initializers_light p [] = omega arith
@@ -387,8 +383,8 @@ weigh_statement (AltCase (talk.ReceiveInto t target chan)) h = omega arith
 weigh_statement (AltCase (talk.Send chan value)) h = omega arith
 weigh_statement (Par _ branches) h = tt
 weigh_statement (part.rescue _ _ _) h = omega arith
-weigh_statement (Raise _ rescue) h = jumps_light h _ (target_items h rescue)
-weigh_statement (Goto _ label) h = jumps_light h _ (target_items h label)
+weigh_statement (Raise _ rescue) h = tt
+weigh_statement (Goto _ label) h = tt
 weigh_statement (Return _ None) h = omega arith
 weigh_statement (Return _ (Some e)) h = omega arith
 weigh_statement (Become _ call) h = does_light h (call_work h.program call InvokeInstead) _ (omega (arith, call_work_light h.program call InvokeInstead (λ f n. omega arith)))

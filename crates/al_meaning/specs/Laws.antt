@@ -1,10 +1,14 @@
 -- Laws on the meaning of programs.
-use Rattle.std.specs.Prelude.{ℕ, List, ⊤}
+use Rattle.std.specs.Prelude.{ℕ, ◌≡◌, ◌≢◌, List, ⊤}
+use Rattle.al_event.specs.declared.act.Start.{Start}
 use Rattle.al_world.specs.Turns.{Moves, Turns, Asks, to_turn}
 use Rattle.al_typed.specs.declared.program.Program.{Program}
 use Rattle.al_meaning.specs.Items.{Control}
 use Rattle.al_meaning.specs.Step.{Next, private_step}
 use Rattle.al_meaning.specs.Weight.{control_weight}
+use Rattle.al_meaning.specs.Tasks.{Answer, Stuck, Unfinished}
+use Rattle.al_meaning.specs.Meant.{task_told}
+use Rattle.al_meaning.specs.After.{task_asked}
 
 -- a turn or an action, and no step on the way to one
 abbrev pub IsTurnOrAction : Next → Type 0
@@ -16,3 +20,9 @@ IsTurnOrAction (Asks _ _ _ _) = ⊤
 abbrev pub ComeToActions : Type 0
 ComeToActions =
     (p : Program) (c : Control) (privates : List ℕ) → IsTurnOrAction (to_turn (private_step p) (control_weight p) (control_weight p c) c privates)
+
+-- A meaning that is told the answers says what a task asks after them, in which line and with which private globals, unless it
+-- leaves that open.
+abbrev pub AskAsTold : Type 0
+AskAsTold =
+    (p : Program) (n : ℕ) (start : Start) (privates : List ℕ) (answers : List Answer) → task_told p n start privates answers ≢ Stuck → task_told p n start privates answers ≢ Unfinished → task_asked p start privates answers ≡ task_told p n start privates answers

@@ -7,8 +7,9 @@ pub mod Parts
 pub mod Step
 pub mod Weight
 pub mod Meaning
-pub mod Laws
 pub mod Tasks
 pub mod Told
 pub mod Meant
+pub mod After
+pub mod Laws
 mod Examples

@@ -617,10 +617,9 @@ gives_back _ n h = asks h (act.Free n Heap) (Answered ∷ [])
 
 -- ---- statements
 
--- the items of a jump's target are all that is done in the frame then
+-- The items of a jump's target are all that is done in the frame then. No well-typed program jumps to where there are none.
 abbrev pub jumps : Here → Option (List Item) → Next
-jumps h (Some items) = Turns h.line (control_at (record h { frame = record h.frame { items = items } })) h.privates
-jumps h None = lost h
+jumps h items = Turns h.line (control_at (record h { frame = record h.frame { items = unwrap_or items [] } })) h.privates
 
 abbrev pub items_from : Option FunctionRow → ℕ → Option (List Item)
 items_from (Some f) number = going_on number f.body []
@@ -736,7 +735,7 @@ iterate number (b ∷ rest) value h =
     else moves h
 
 abbrev pub next_turn : Bounds → Bounds
-next_turn b = record b { from = b.from + 1 }
+next_turn b = record b { from = sum b.from 1 }
 
 -- ---- cases
 

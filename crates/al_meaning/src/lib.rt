@@ -4,4 +4,4 @@
 
 mod laws;
 
-pub use laws::tasks_come_to_actions;
+pub use laws::{tasks_ask_as_told, tasks_come_to_actions};

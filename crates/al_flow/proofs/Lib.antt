@@ -1,0 +1,3 @@
+pub mod MarksAre
+pub mod TargetsAre
+pub mod FlowIs

@@ -1,0 +1,19 @@
+//! Where each goto, raise, break and continue of a function goes, by typing rules 49 to 51 and 54.
+//!
+//! The rules are in `specs/Rules.antt`, one predicate each, and `specs/Flow.antt` says which statements they are asked of.
+#![tactic(auto)]
+
+mod around;
+mod flow;
+mod mark;
+mod marks;
+mod target;
+mod targets;
+mod walk;
+
+pub use flow::find_targets;
+pub use target::Target;
+pub use targets::Targets;
+
+#[cfg(test)]
+mod tests;
