@@ -10,3 +10,4 @@ pub mod Statements
 pub mod Jumps
 pub mod Functions
 pub mod Endings
+pub mod Finishing

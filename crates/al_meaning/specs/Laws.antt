@@ -1,12 +1,12 @@
 -- Laws on the meaning of programs.
-use Rattle.std.specs.Prelude.{ℕ, ◌≡◌, ◌≢◌, List, ⊤}
+use Rattle.std.specs.Prelude.{ℕ, ◌+◌, ◌*◌, ◌≤◌, ◌≡◌, ◌≢◌, List, length, ⊤}
 use Rattle.al_event.specs.declared.act.Start.{Start}
 use Rattle.al_world.specs.Turns.{Moves, Turns, Asks, to_turn}
 use Rattle.al_typed.specs.declared.program.Program.{Program}
 use Rattle.al_meaning.specs.Items.{Control}
 use Rattle.al_meaning.specs.Step.{Next, private_step}
 use Rattle.al_meaning.specs.Weight.{control_weight}
-use Rattle.al_meaning.specs.Tasks.{Answer, Stuck, Unfinished}
+use Rattle.al_meaning.specs.Tasks.{most_turns, Answer, Stuck, Unfinished}
 use Rattle.al_meaning.specs.Meant.{task_told}
 use Rattle.al_meaning.specs.After.{task_asked}
 
@@ -26,3 +26,8 @@ ComeToActions =
 abbrev pub AskAsTold : Type 0
 AskAsTold =
     (p : Program) (n : ℕ) (start : Start) (privates : List ℕ) (answers : List Answer) → task_told p n start privates answers ≢ Stuck → task_told p n start privates answers ≢ Unfinished → task_asked p start privates answers ≡ task_told p n start privates answers
+
+-- With as many rounds, jumps and calls as there can be turns, it leaves nothing open.
+abbrev pub LeaveNothingOpen : Type 0
+LeaveNothingOpen =
+    (p : Program) (n : ℕ) (start : Start) (privates : List ℕ) (answers : List Answer) → most_turns + most_turns * length answers ≤ n → task_told p n start privates answers ≢ Unfinished
