@@ -21,7 +21,7 @@ use Rattle.al_world.proofs.Lists.{all_to, all_append, all_filter, all_at, all_in
 use Rattle.al_world.proofs.Cases.{got_some, IfSome', performs_cases}
 use Rattle.al_world.proofs.Runs.{run_none, along}
 use Rattle.al_world.proofs.Local.{IsStepBy, step_by}
-use Rattle.al_world.proofs.Sound.{Offers, IsTalking}
+use Rattle.al_world.specs.Sound.{Offers, IsTalking}
 use Rattle.al_world.proofs.Roles.{Without, SoundWorld, sound_step, sound_opening, Withdrawn, IsWithdrawal, fired_withdrawal}
 use Rattle.al_world.proofs.Names.{names_in-append, fresh_offers}
 use Rattle.al_world.proofs.Handing.{is_taken, is_left_or_stays}

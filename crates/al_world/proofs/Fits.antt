@@ -27,7 +27,8 @@ use Rattle.al_world.proofs.Lists.{all_at}
 use Rattle.al_world.proofs.Cases.{got_some, IfSome', at_zero_cases, talks_cases}
 use Rattle.al_world.proofs.Runs.{along}
 use Rattle.al_world.proofs.Local.{Procs, step_by}
-use Rattle.al_world.proofs.Sound.{IsTalking, IsJoining, Sound, Changed, changed_here, kept}
+use Rattle.al_world.specs.Sound.{IsTalking, IsJoining, Sound}
+use Rattle.al_world.proofs.Sound.{Changed, changed_here, kept}
 use Rattle.al_world.proofs.Roles.{set_changed, sound_run}
 use Rattle.al_world.proofs.Fit.{HoldsBytes, cut_same, load_below, alloc_placed, in_order_all, fit_talk}
 use Rattle.al_world.proofs.Fitting.{FitIn, KeepsFit, keeps_performs, fired_ok, WokeOk}

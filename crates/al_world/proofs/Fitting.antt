@@ -21,7 +21,7 @@ use Rattle.al_world.specs.Answers.{AreWords, SendsWords, IsProper}
 use Rattle.al_world.proofs.Lists.{any_false_at, same_ok, all_to, all_append, all_filter, all_at, and_true, or_false, true_false}
 use Rattle.al_world.proofs.Cases.{IfSome', at_zero_cases, talks_cases}
 use Rattle.al_world.proofs.Fires.{fires_ways, Ways, IsBranch, IsPartner}
-use Rattle.al_world.proofs.Sound.{Offers}
+use Rattle.al_world.specs.Sound.{Offers}
 use Rattle.al_world.proofs.Roles.{Without}
 use Rattle.al_world.proofs.Queues.{channel-same, channel-other}
 use Rattle.al_world.proofs.Fit.{HoldsBytes, Received, store_bytes, alloc_placed, freed_bytes}

@@ -19,7 +19,7 @@ use Rattle.al_world.proofs.Maps.{same_task_tells}
 use Rattle.al_world.proofs.Lists.{and_true, in_left, stays_in, in_tail}
 use Rattle.al_world.proofs.Cases.{got_some, IfSome', performs_cases, talks_cases}
 use Rattle.al_world.proofs.Fires.{fires_ways, Ways, IsBranch, IsPartner}
-use Rattle.al_world.proofs.Sound.{Offers}
+use Rattle.al_world.specs.Sound.{Offers}
 use Rattle.al_world.proofs.Roles.{Without, without_others}
 
 -- ---- the pair that was picked

@@ -21,7 +21,7 @@ use Rattle.al_world.proofs.Cases.{got_some, IfSome', at_zero_cases, talks_cases}
 use Rattle.al_world.proofs.Runs.{along}
 use Rattle.al_world.proofs.Local.{step_by}
 use Rattle.al_world.proofs.Fires.{fires_ways, Ways, IsPartner}
-use Rattle.al_world.proofs.Sound.{Offers}
+use Rattle.al_world.specs.Sound.{Offers}
 use Rattle.al_world.proofs.Roles.{Without, without_others}
 
 abbrev Log : Type 0

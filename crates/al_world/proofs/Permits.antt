@@ -27,7 +27,7 @@ use Rattle.al_world.proofs.Lists.{all_at}
 use Rattle.al_world.proofs.Cases.{got_some, IfSome', performs_cases}
 use Rattle.al_world.proofs.Runs.{along, run_none}
 use Rattle.al_world.proofs.Local.{step_by}
-use Rattle.al_world.proofs.Sound.{Offers}
+use Rattle.al_world.specs.Sound.{Offers}
 use Rattle.al_world.proofs.Fires.{IsPair, pairs_are}
 use Rattle.al_world.proofs.Fires as Pairs
 

@@ -27,7 +27,8 @@ use Rattle.al_world.specs.Transfers.{IsIn}
 use Rattle.al_world.proofs.Lists.{get_seam, same_ok, all_append, all_filter, all_at, or_false}
 use Rattle.al_world.proofs.Local.{Procs, step_by, step_local}
 use Rattle.al_world.proofs.Fires.{fires_ways, Ways, IsPartner}
-use Rattle.al_world.proofs.Sound.{Offers, IsTalking, IsJoining, IsReady, Changed, changed_here, Sound, kept, goes_again, leaves_list, wakes_up, one_more_proc, one_more_task, orphaned, length-changed}
+use Rattle.al_world.specs.Sound.{Offers, IsTalking, IsJoining, IsReady, Sound}
+use Rattle.al_world.proofs.Sound.{Changed, changed_here, kept, goes_again, leaves_list, wakes_up, one_more_proc, one_more_task, orphaned, length-changed}
 
 pub set_changed : {C : Type 0} (T : TaskName → Held C) (t : TaskName) (h : Held C) → Changed T (at_task t h T) t h
 set_changed T t h = record { at = λ v. on v (same_task v t) (same_task_tells v t) }

@@ -14,17 +14,10 @@ use Rattle.al_world.specs.Procs.{ProcState, new_proc}
 use Rattle.al_world.specs.World.{TaskName, TalkName, Held, Absent, Goes, Waits, at_proc}
 use Rattle.al_world.specs.Actions.{first_task}
 use Rattle.al_world.specs.Laws.{IsGoing}
+use Rattle.al_world.specs.Sound.{Offers, NoDup, IsTalking, IsJoining, IsReady, ProcOk, Sound}
 use Rattle.al_world.proofs.Local.{Procs}
 use Rattle.al_world.proofs.Lists.{all_to, all_append}
 use Rattle.al_world.proofs.Maps.{get-changed-same, get-changed-other, at_proc_cases}
-
-abbrev pub Offers : Type 0
-Offers = List (Offer TalkName)
-
--- no task twice
-abbrev pub NoDup : List TaskName → Type 0
-NoDup [] = Unit {0}
-NoDup (t ∷ ts) = AllByRecursion (λ (u : TaskName). t ≢ u) ts × NoDup ts
 
 NoDup-append : (xs : List TaskName) (t : TaskName) → AllByRecursion (λ (u : TaskName). u ≢ t) xs → NoDup xs → NoDup (xs ++ t ∷ [])
 NoDup-append [] t h d = (tt, tt)
@@ -58,37 +51,9 @@ get_append_one (z ∷ zs) x y (suc k) g = on (get_append_one zs x y k g)
     on (inr e) = inr (ap suc e.0, e.1)
 
 module _ {C : Type 0} where
-  -- a blocked task, of whose talk this is a branch
-  pub record IsTalking (o : Offer TalkName) (h : Held C) : Type 0 where
-    pub branches : List Branch
-    pub control : C
-    pub is : h ≡ Waits (Talk branches) control
-    pub at : slice_get branches o.number ≡ Some o.branch
-
-  pub record IsJoining (h : Held C) : Type 0 where
-    pub starts : List Start
-    pub control : C
-    pub is : h ≡ Waits (Par starts) control
-
   -- the two maps differ at one task at most, at which the second has h
   pub record Changed (T T' : TaskName → Held C) (t : TaskName) (h : Held C) : Type 0 where
     pub at : (v : TaskName) → ((v ≡ t) × (T' v ≡ h)) ⊎ ((v ≢ t) × (T' v ≡ T v))
-
-  -- a ready task of proc p
-  pub record IsReady (T : TaskName → Held C) (p : ℕ) (t : TaskName) : Type 0 where
-    pub home : t.proc ≡ p
-    pub going : IsGoing (T t)
-
-  pub record ProcOk (T : TaskName → Held C) (p : ℕ) (q : ProcState TaskName) : Type 0 where
-    pub ready : AllByRecursion (IsReady T p) q.ready
-    pub distinct : NoDup q.ready
-    pub parent : (u : TaskName) → q.parent ≡ Some u → IsJoining (T u)
-
-  pub record Sound (ps : Procs) (ws : Offers) (started : ℕ → ℕ) (T : TaskName → Held C) : Type 0 where
-    pub procs : (p : ℕ) (q : ProcState TaskName) → slice_get ps p ≡ Some q → ProcOk T p q
-    pub waiting : AllByRecursion (λ (o : Offer TalkName). IsTalking o (T o.by.task)) ws
-    pub absent : (t : TaskName) → started t.proc ≤ t.number → T t ≡ Absent
-    pub unstarted : (p : ℕ) → length ps ≤ p → started p ≡ 0
 
   -- a fact on what a task holds that excludes what stood at the task that changes
   pub kept : (P : Held C → Type 0) (T T' : TaskName → Held C) (t v : TaskName) (h : Held C) → Changed T T' t h → (P (T t) → ⊥) → P (T v) → P (T' v)

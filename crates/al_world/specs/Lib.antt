@@ -9,6 +9,7 @@ pub mod Scripts
 pub mod Examples
 pub mod Alike
 pub mod Laws
+pub mod Sound
 pub mod Transfers
 pub mod Answers
 pub mod Renamed
