@@ -11,3 +11,4 @@ pub mod Room
 pub mod Staying
 pub mod Stepping
 pub mod Values
+pub mod Copies

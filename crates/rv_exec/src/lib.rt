@@ -5,6 +5,7 @@ mod begin;
 mod call;
 #[cfg(test)]
 mod call_tests;
+mod copying;
 mod execute;
 mod laws;
 mod lines;

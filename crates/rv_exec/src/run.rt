@@ -21,13 +21,13 @@ const LONGEST_STRETCH: u64 = ((1 << 27) + 1) << 32;
 /// A task on the machine.
 #[derive(Debug, Drop)]
 pub struct Hart {
-    state: State,
+    pub(crate) state: State,
 }
 
 /// The private globals of a proc.
 #[derive(Debug, Drop)]
 pub struct Privates {
-    words: Vec<u32>,
+    pub(crate) words: Vec<u32>,
 }
 
 /// A task that may run, with the private globals of its proc.
