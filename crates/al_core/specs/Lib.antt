@@ -1,0 +1,14 @@
+pub mod Opening
+pub mod Placing
+pub mod FirstTask
+pub mod History
+pub mod Stands
+pub mod Lends
+pub mod Lawful
+pub mod Kept
+pub mod Sharing
+pub mod WorldMemo
+pub mod Steps
+pub mod Asks
+pub mod Acting
+pub mod Preparing
