@@ -1,0 +1,24 @@
+-- A world later on in its run.
+use Rattle.std.specs.Prelude.{◌≡◌, ℕ, List, ◌++◌, All, IsSome}
+use Rattle.al_event.specs.declared.entry.Entry.{Entry}
+use Rattle.al_core.specs.History.{History, run_of, output_of}
+
+-- some entries more, each made by one worker; the image, the limits and what was dropped stay
+pub record IsLater (worker : ℕ) (old new : History) : Type 0 where
+  pub more : List Entry
+  pub entries : new.entries ≡ old.entries ++ more
+  pub by : All (λ (e : Entry). e.worker ≡ worker) more
+  pub image : new.image ≡ old.image
+  pub region : new.region ≡ old.region
+  pub limit : new.limit ≡ old.limit
+  pub quota : new.quota ≡ old.quota
+  pub dropped : new.dropped ≡ old.dropped
+
+-- after some entries more
+abbrev pub followed_by : List Entry → History → History
+followed_by more h = record h { entries = h.entries ++ more }
+
+-- what was put out after some entries stands first after more of them
+pub record PutsOutMore (more : List Entry) (h : History) : Type 0 where
+  pub shown : List ℕ
+  pub output : output_of (followed_by more h) ≡ output_of h ++ shown

@@ -1,0 +1,95 @@
+//! A round of one worker, on the caller's thread.
+
+ghost use Rattle.std.specs.Prelude.{◌≡◌, ◌≢◌, ◌⊎◌, ◌+◌, ◌<◌, ◌≤◌, ℕ, None, IsSome, IsNone, IfOk, OnOk, length};
+ghost use Rattle.al_core.specs.History.{over_of, loan_of, away};
+ghost use Rattle.al_core.specs.Lends.{IsLent, MatchAfter};
+ghost use Rattle.al_rounds.specs.Later.{IsLater};
+
+use al_base::NoMemory;
+use al_core::{After, Next, World};
+use rv_exec::{Held, stretch};
+use std::alloc::Global;
+
+/// The one worker of a round.
+const WORKER: u8 = 0;
+
+/// After so many entries in a row a proc gives others their turn.
+const MOST_IN_A_ROW: u32 = 64;
+
+/// Runs a world on, on this thread as worker 0, until it is over or has `quota` entries. A world that lacked memory may be
+/// looked at, and not run on.
+pub fn round(alloc: Global, world: World, quota: u64) -> (World, Option<NoMemory>)
+    requires here { away world ≡ 0 }
+    requires least { length world.entries ≤ quota }
+    requires most { quota ≤ world.limit }
+    ensures later { IsLater 0 (record world { quota = quota }) result.0 }
+    // Where there is memory the round is done whole.
+    ensures done { IsNone result.1 → (IsSome (over_of result.0) ⊎ (length result.0.entries ≡ quota)) }
+    ensures here { IsNone result.1 → away result.0 ≡ 0 }
+{
+    let mut world = world;
+    world.allow(quota);
+    match run(alloc, &mut world) {
+        Ok(()) => (world, None),
+        Err(no_memory) => (world, Some(no_memory)),
+    }
+}
+
+/// Runs a world on until it is over or has as many entries as it may have by now.
+fn run(alloc: Global, world: &mut World) -> Result<(), NoMemory>
+    requires { away world.old ≡ 0 }
+    ensures later { IsLater 0 world.old world.new }
+    ensures done { OnOk result (IsSome (over_of world.new) ⊎ (length world.new.entries ≡ world.new.quota)) }
+    ensures here { OnOk result (away world.new ≡ 0) }
+{
+    loop {
+        let _made = world.entries().len();
+        let held = match world.pick(WORKER) {
+            Next::Held(held) => held,
+            Next::Full | Next::Over => return Ok(()),
+            Next::Others => unreachable!(),
+        };
+        go_on(alloc, world, held)?;
+    }
+}
+
+/// Runs a proc that was lent, for some entries in a row.
+fn go_on(alloc: Global, world: &mut World, held: Held) -> Result<(), NoMemory>
+    requires lent { IsLent world.old 0 held }
+    requires live { over_of world.old ≡ None }
+    ensures later { IsLater 0 world.old world.new }
+    ensures others { (k : ℕ) → k ≢ 0 → loan_of world.new k ≡ loan_of world.old k }
+    ensures some { OnOk result (length world.old.entries < length world.new.entries) }
+    ensures idle { OnOk result (loan_of world.new 0 ≡ None) }
+{
+    let mut held = held;
+    for _ in 0..MOST_IN_A_ROW {
+        held = match turn(alloc, world, held)? {
+            After::Held(next) => next,
+            After::Idle | After::Over => return Ok(()),
+        };
+    }
+    world.put_back(WORKER, held);
+    Ok(())
+}
+
+/// Runs what was lent to its next action, and does that.
+fn turn(alloc: Global, world: &mut World, held: Held) -> Result<After, NoMemory>
+    requires lent { IsLent world.old 0 held }
+    requires live { over_of world.old ≡ None }
+    ensures later { IsLater 0 world.old world.new }
+    ensures others { (k : ℕ) → k ≢ 0 → loan_of world.new k ≡ loan_of world.old k }
+    ensures one { OnOk result (length world.new.entries ≡ length world.old.entries + 1) }
+    ensures after { IfOk result (λ after. MatchAfter after (λ held. IsLent world.new 0 held × (over_of world.new ≡ None)) (loan_of world.new 0 ≡ None) (loan_of world.new 0 ≡ None)) }
+{
+    match stretch(alloc, world.image(), held) {
+        Ok(asked) => match world.perform(WORKER, asked) {
+            Ok(after) => Ok(after),
+            Err((_, no_memory)) => Err(no_memory),
+        },
+        Err((held, no_memory)) => {
+            world.put_back(WORKER, held);
+            Err(no_memory)
+        }
+    }
+}
