@@ -99,7 +99,7 @@ pub record CountsHold (n f g i p m l : ℕ) : Type 0 where
   pub main : m < f
   pub lines : l ≤ n
 
-counts_hold : (code functions globals items privates main lines : ℕ) → are_counts code functions globals items privates main lines ≡ true → CountsHold code functions globals items privates main lines
+pub counts_hold : (code functions globals items privates main lines : ℕ) → are_counts code functions globals items privates main lines ≡ true → CountsHold code functions globals items privates main lines
 counts_hold code functions globals items privates main lines h =
     let t1 = nat_le 1 code && nat_le code (2 ^ 23) in
     let t2 = nat_le 1 functions && nat_le functions 65536 in

@@ -151,7 +151,7 @@ pub record IsHeader (bytes : List ℕ) (h : Header) : Type 0 where
   pub counts : has_counts h ≡ true
   pub is : header_from (number_at bytes) ≡ h
 
-header_found : (bytes : List ℕ) (h : Header) → header_of bytes ≡ Ok h → IsHeader bytes h
+pub header_found : (bytes : List ℕ) (h : Header) → header_of bytes ≡ Ok h → IsHeader bytes h
 unfolding header_of
 header_found bytes h e =
     let made : Header = header_from (number_at bytes) in
@@ -179,7 +179,7 @@ pub record AreContents (bytes : List ℕ) (h : Header) (c : Contents) : Type 0 w
   pub rows : are_rows (contents_from (number_at bytes) h) ≡ true
   pub is : contents_from (number_at bytes) h ≡ c
 
-contents_found : (bytes : List ℕ) (h : Header) (c : Contents) → contents_of bytes h ≡ Ok c → AreContents bytes h c
+pub contents_found : (bytes : List ℕ) (h : Header) (c : Contents) → contents_of bytes h ≡ Ok c → AreContents bytes h c
 unfolding contents_of
 contents_found bytes h c e =
     let made : Contents = contents_from (number_at bytes) h in
@@ -192,7 +192,7 @@ contents_found bytes h c e =
     let most = ltb-false (4 * size_of h) (length bytes) g3.0 in
     record { size = omega (arith, least, most); rows = not-false (are_rows made) g2.0; is = ok_is made c g3.1 }
 
-then_found : (bytes : List ℕ) (r : Result Header ImageFault) (c : Contents) → then_contents bytes r ≡ Ok c → (h : Header) × (r ≡ Ok h) × (contents_of bytes h ≡ Ok c)
+pub then_found : (bytes : List ℕ) (r : Result Header ImageFault) (c : Contents) → then_contents bytes r ≡ Ok c → (h : Header) × (r ≡ Ok h) × (contents_of bytes h ≡ Ok c)
 then_found bytes (Ok h) c e = (h, refl, e)
 then_found bytes (Err fault) c e = absurd cc
 
