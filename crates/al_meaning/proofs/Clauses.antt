@@ -1,31 +1,31 @@
 -- A control does what the meaning says of the parts of statements.
-use Rattle.std.proofs.Common.{◌≡◌, ℕ, zero, suc, ◌+◌, ◌^◌, List, [], ◌∷◌, ◌++◌, length, map, take, drop, Option, Some, None, refl, sym, ap, ◌∙◌, subst, arith, length-append}
-use Rattle.std.specs.Prelude.{Bool, true, false, if◌then◌else◌, slice_get, slice_index}
+use Rattle.std.proofs.Common.{◌≡◌, ℕ, suc, ◌+◌, ◌^◌, List, [], ◌∷◌, ◌++◌, length, map, Option, Some, None, refl, sym, ap, subst, arith, length-append}
 use Rattle.std.specs.List.{flat_map}
 use Rattle.al_event.specs.declared.act.Act.{Act}
 use Rattle.al_event.specs.declared.act.Act.TheVariants as act
 use Rattle.al_event.specs.declared.act.Start.{Start}
-use Rattle.al_world.specs.Turns.{Moves, Turns, Asks}
 use Rattle.al_typed.specs.declared.ty.Ty.{Ty, out-Ty}
 use Rattle.al_typed.specs.declared.ty.Ty.TheOpen.{Ty-F}
 use Rattle.al_typed.specs.declared.expression.TExpr.{TExpr, Call'}
 use Rattle.al_typed.specs.declared.expression.TPlace.{TPlace}
-use Rattle.al_typed.specs.declared.expression.TPlace.TheVariants as place_form
-use Rattle.al_typed.specs.declared.expression.TTarget.{TTarget}
 use Rattle.al_typed.specs.declared.statement.TInitializer.{TInitializer}
 use Rattle.al_typed.specs.declared.statement.TCommunication.{TCommunication}
 use Rattle.al_typed.specs.declared.statement.TCommunication.TheVariants as talk
 use Rattle.al_typed.specs.Types.{is_void}
 use Rattle.al_typed.specs.Typed.{type_of, place_type, target_type}
-use Rattle.al_meaning.specs.Words.{bits_of, converted, fitted_to}
-use Rattle.al_meaning.specs.Items.{Found, Words, Work, Eval, Give, Drop, StartProc, StartTask, Allocate, Unallocate, Item, Frame, Control}
+use Rattle.al_meaning.specs.Words.{converted, fitted_to}
+use Rattle.al_meaning.specs.Items.{Found, Words, Work, Give, Drop, StartProc, StartTask, Item, Frame, Control}
 use Rattle.al_meaning.specs.Parts.{item, exprs, receiver_of}
-use Rattle.al_meaning.specs.Step.{private_step, units_in, leaves_of, evaluated, object_work, object_count, call_work, joined, optionally, and_dropped, initializer_work, allocation_work, unallocation_work, allocates, gives_back, went_work}
+use Rattle.al_meaning.specs.Here.{units_in}
+use Rattle.al_meaning.specs.Calls.{evaluated, object_count, call_work, joined}
+use Rattle.al_meaning.specs.Evaluate.{leaves_of, and_dropped, allocates, gives_back, went_work}
+use Rattle.al_meaning.specs.Execute.{optionally, initializer_work, allocation_work, unallocation_work}
+use Rattle.al_meaning.specs.Step.{private_step}
 use Rattle.al_meaning.specs.Tasks.{Env, Still, Outcome, Rest, Task, Ways}
 use Rattle.al_meaning.specs.Tasks as task
 use Rattle.al_meaning.specs.Meant as meant
-use Rattle.al_meaning.proofs.Does.{Does, stuck, one, asks, asks_words, one_word, stops, turns, branches}
-use Rattle.al_meaning.proofs.Places.{stacked, pushed, values_taken, places_taken, pushed_both, at, place, slots_here, DoesIt, moved, val, dropped_does, save_does, saves_do}
+use Rattle.al_meaning.proofs.Does.{stuck, one, asks, asks_words, one_word}
+use Rattle.al_meaning.proofs.Places.{pushed, values_taken, places_taken, pushed_both, at, place, slots_here, DoesIt, moved, val, dropped_does, save_does, saves_do}
 use Rattle.al_meaning.proofs.Expressions.{CallsDo, expr_does, place_does, aim_does, object_does, all_do}
 
 pub laid : (line : ℕ) (work more : List Work) (items : List Item) → map (item line) (work ++ more) ++ items ≡ map (item line) work ++ (map (item line) more ++ items)

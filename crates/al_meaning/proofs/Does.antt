@@ -1,19 +1,20 @@
 -- What a control asks after the answers that it is given, a private step at a time.
-use Rattle.std.proofs.Common.{◌≡◌, ℕ, zero, suc, ◌-◌, List, [], ◌∷◌, refl, sym, ap, ◌∙◌, subst, arith}
-use Rattle.std.specs.Prelude.{◌≢◌, Bool, true, false, Option, Some, None, if◌then◌else◌}
+use Rattle.std.proofs.Common.{◌≡◌, ℕ, zero, suc, List, [], ◌∷◌, refl, sym, ap, ◌∙◌, subst}
+use Rattle.std.specs.Prelude.{◌≢◌, Bool, true, false, Some, if◌then◌else◌}
 use Rattle.al_event.specs.declared.act.Act.{Act}
 use Rattle.al_event.specs.declared.act.Act.TheVariants as act
 use Rattle.al_world.specs.Control.{Asked, fitted, cut}
-use Rattle.al_world.specs.Turns.{Move, Moves, Turns, Asks, ask_within}
+use Rattle.al_world.specs.Turns.{Moves, Turns, Asks, ask_within}
 use Rattle.al_world.proofs.Turning.{Comes, comes, all_come}
 use Rattle.al_world.proofs.Turning as come
 use Rattle.al_typed.specs.declared.program.Program.{Program}
-use Rattle.al_meaning.specs.Items.{Control}
-use Rattle.al_meaning.specs.Step.{Next, private_step, with_given}
+use Rattle.al_meaning.specs.Items.{Control, most_turns}
+use Rattle.al_meaning.specs.Here.{Next}
+use Rattle.al_meaning.specs.Calls.{with_given}
+use Rattle.al_meaning.specs.Step.{private_step}
 use Rattle.al_meaning.specs.Weight.{control_weight}
 use Rattle.al_meaning.specs.Meaning.{ask, resume}
-use Rattle.al_meaning.specs.Tasks.{most_turns, Env, Rest, Task, Answer, Still, Outcome, Over, Unfinished, Stuck, answered, ask_in, last_asked, stop_in, turn_at, turn_in}
-use Rattle.al_meaning.specs.Tasks as told
+use Rattle.al_meaning.specs.Tasks.{Env, Rest, Task, Answer, Still, Outcome, Over, Unfinished, Stuck, answered, ask_in, last_asked, stop_in, turn_at, turn_in}
 use Rattle.al_meaning.specs.After.{is_last, after}
 use Rattle.al_meaning.proofs.Lighter.{lighter}
 

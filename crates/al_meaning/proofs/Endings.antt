@@ -1,10 +1,10 @@
 -- With enough rounds the meaning of an expression is never left open.
-use Rattle.std.proofs.Common.{◌≡◌, ℕ, zero, suc, ◌+◌, ◌*◌, ◌-◌, ◌<◌, ◌≤◌, List, [], ◌∷◌, ◌++◌, length, map, take, drop, Option, Some, None, refl, arith}
+use Rattle.std.proofs.Common.{ℕ, zero, suc, ◌+◌, ◌*◌, ◌-◌, ◌<◌, ◌≤◌, List, [], ◌∷◌, ◌++◌, length, drop, Option, Some, None, arith}
 use Rattle.std.specs.Prelude.{◌≢◌, Bool, true, false, not, nat_lt, if◌then◌else◌, slice_index}
 use Rattle.al_base.specs.declared.trap.Trap.TheVariants as trap
 use Rattle.al_event.specs.declared.act.Act.{Act}
 use Rattle.al_event.specs.declared.act.Act.TheVariants as act
-use Rattle.al_typed.specs.declared.ty.Ty.{Ty, out-Ty}
+use Rattle.al_typed.specs.declared.ty.Ty.{Ty}
 use Rattle.al_typed.specs.declared.layout.Unit.{Unit as StorageUnit}
 use Rattle.al_typed.specs.declared.expression.Logic.TheVariants as logic
 use Rattle.al_typed.specs.declared.expression.Movement.TheVariants as movement
@@ -19,12 +19,13 @@ use Rattle.al_typed.specs.declared.expression.TReceiver.{TReceiver}
 use Rattle.al_typed.specs.ExpressionForms as form
 use Rattle.al_typed.specs.Types.{is_void}
 use Rattle.al_typed.specs.Typed.{type_of}
-use Rattle.al_meaning.specs.Words.{bits_of, is_zero, truth, sum}
+use Rattle.al_meaning.specs.Words.{is_zero, truth, sum}
 use Rattle.al_meaning.specs.Shown.{most_text, written}
-use Rattle.al_meaning.specs.Places.{words_in}
-use Rattle.al_meaning.specs.Items.{Found, Words, Address, Local, Private, Nowhere, Argument}
-use Rattle.al_meaning.specs.Step.{units_in, joined, leaves_of}
-use Rattle.al_meaning.specs.Tasks.{most_turns, Answer, Env, Still, Outcome, Asks, Over, Unfinished, Stuck, Rest, Task, ◌>>=◌, Ways, answered, ask_in, last_asked, stop_in, turn_at, turn_in, calls, traps}
+use Rattle.al_meaning.specs.Items.{Found, Words, Address, Local, Private, Nowhere, Argument, most_turns}
+use Rattle.al_meaning.specs.Here.{units_in}
+use Rattle.al_meaning.specs.Calls.{joined}
+use Rattle.al_meaning.specs.Evaluate.{leaves_of}
+use Rattle.al_meaning.specs.Tasks.{Answer, Env, Still, Outcome, Unfinished, Stuck, Rest, Task, ◌>>=◌, Ways, answered, ask_in, last_asked, turn_at, turn_in, calls, traps}
 use Rattle.al_meaning.specs.Told.{value, gives, needed, drop_checked, at_address, load_units, read, store_units, save, save_all, saved, saved_or_divides, quotient, passed_at, passed_part, composed, scan_byte, scan, compose, call_found, told, found, aimed, aimed_all, told_object, told_receiver, told_all, drop_all}
 use Rattle.al_meaning.specs.Meant.{Given}
 

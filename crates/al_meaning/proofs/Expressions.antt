@@ -1,17 +1,12 @@
 -- A control does what the meaning says of an expression.
-use Rattle.std.proofs.Common.{◌≡◌, ℕ, zero, suc, ◌+◌, ◌^◌, List, [], ◌∷◌, ◌++◌, length, map, take, drop, Option, Some, None, refl, sym, ap, ◌∙◌, subst, arith, length-append}
+use Rattle.std.proofs.Common.{◌≡◌, ℕ, zero, suc, ◌+◌, ◌^◌, List, [], ◌∷◌, ◌++◌, length, map, Option, Some, None, refl, sym, ap, ◌∙◌, arith, length-append}
 use Rattle.std.proofs.lemmas.List.{length-map}
 use Rattle.std.proofs.lemmas.List.Sums.{sum_by-cons}
-use Rattle.std.specs.Prelude.{Bool, true, false, not, nat_lt, if◌then◌else◌, slice_get, slice_index, sum_by}
+use Rattle.std.specs.Prelude.{true, false, not, nat_lt, slice_index, sum_by}
 use Rattle.std.specs.List.{flat_map}
-use Rattle.std.specs.Int.{cast_signed, w32}
 use Rattle.al_base.specs.declared.trap.Trap.TheVariants as trap
-use Rattle.al_event.specs.declared.act.Act.TheVariants as act
-use Rattle.al_world.specs.Turns.{Moves, Turns, Asks}
-use Rattle.al_typed.specs.declared.ty.Ty.{Ty, out-Ty}
 use Rattle.al_typed.specs.declared.expression.Logic.TheVariants as logic
 use Rattle.al_typed.specs.declared.expression.Movement.TheVariants as movement
-use Rattle.al_typed.specs.declared.expression.Passed.{Passed}
 use Rattle.al_typed.specs.declared.expression.PrintPiece.{PrintPiece}
 use Rattle.al_typed.specs.declared.expression.PrintPiece.TheVariants as print
 use Rattle.al_typed.specs.declared.expression.TExpr.{TExpr, Constant, Text, Nil, Function, SizeofType, Tuple', Call', CallPointer', Print', Sequence', Iterator, Held-TExpr-Call-2, None', Some', Row_of-TExpr, end_of-TExpr, more_of-TExpr, Row_of-TTarget, end_of-TTarget, more_of-TTarget, end_of-TReceiver, more_of-TReceiver}
@@ -21,19 +16,21 @@ use Rattle.al_typed.specs.declared.expression.TReceiver.{TReceiver}
 use Rattle.al_typed.specs.declared.program.Program.{Program}
 use Rattle.al_typed.specs.ExpressionForms as form
 use Rattle.al_typed.specs.Types.{is_void}
-use Rattle.al_typed.specs.Typed.{type_of, place_type}
-use Rattle.al_meaning.specs.Words.{bits_of, is_zero, truth, sum, operated}
+use Rattle.al_typed.specs.Typed.{type_of}
+use Rattle.al_meaning.specs.Words.{is_zero, truth, sum, operated}
 use Rattle.al_meaning.specs.Shown.{most_text, written}
-use Rattle.al_meaning.specs.Places.{function_at, path_offset, words_in}
-use Rattle.al_meaning.specs.Items.{Found, Words, Address, Local, Private, Nowhere, Argument, Work, Eval, Find, Aim, Truth, Join, Invoke, InvokePointer, Assign, Gather, Compose, Scan, Scanned, Enter, Drop, Give, Item, Frame, Control}
+use Rattle.al_meaning.specs.Items.{Found, Words, Nowhere, Argument, Work, Eval, Find, Aim, Truth, Join, Invoke, InvokePointer, Gather, Compose, Scan, Give, Item, Frame, Control}
 use Rattle.al_meaning.specs.Parts.{item, exprs, targets, receiver_of}
-use Rattle.al_meaning.specs.Step.{Here, Next, private_step, with_given, with_values, frame_slots, enters, pointee, member_type, drops, evaluated, and_dropped, object_work, object_count, joined, line_of_name, leaves_of, leaves_of_all, traps, does, composes, updated, named_by, invokes, invokes_found, arguments_of, scanned}
+use Rattle.al_meaning.specs.Here.{pointee}
+use Rattle.al_meaning.specs.Calls.{with_given, frame_slots, enters, evaluated, object_work, object_count, joined, invokes, invokes_found}
+use Rattle.al_meaning.specs.Evaluate.{and_dropped, leaves_of, leaves_of_all, composes, updated, scanned}
+use Rattle.al_meaning.specs.Step.{private_step}
 use Rattle.al_meaning.specs.Tasks.{Env, Still, Outcome, Rest, Task, ◌>>=◌, Ways, calls}
 use Rattle.al_meaning.specs.Tasks as task
-use Rattle.al_meaning.specs.Told.{value, gives, told, found, aimed, aimed_all, told_object, told_receiver, told_all, drop_all, scan, scan_byte, compose, composed, call_found, logical_by}
+use Rattle.al_meaning.specs.Told.{value, gives, told, found, aimed, aimed_all, told_object, told_receiver, told_all, drop_all, scan, scan_byte, compose, composed, call_found}
 use Rattle.al_meaning.specs.Meant.{Given}
 use Rattle.al_meaning.proofs.Does.{Does, stuck, one, asks, asks_words, one_word, stops, turns, branches}
-use Rattle.al_meaning.proofs.Places.{stacked, pushed, stacked_both, pushed_both, values_taken, places_taken, frame, at, given, place, slots_here, DoesIt, moved, val, addressed, dropped_does, read_does, save_does, saves_do, quotient_does, saved_does, updated_does, passed_at_does, passed_part_does}
+use Rattle.al_meaning.proofs.Places.{stacked, pushed, stacked_both, pushed_both, values_taken, places_taken, frame, at, given, place, slots_here, DoesIt, moved, val, addressed, dropped_does, read_does, saves_do, quotient_does, saved_does, updated_does, passed_at_does, passed_part_does}
 
 -- calls do what a function does that begins above frames with so many words on the stack
 pub record CallsDo (p : Program) (call : ℕ → List ℕ → Still → Given → Outcome) (slots : ℕ) : Type 0 where

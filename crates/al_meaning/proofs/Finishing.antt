@@ -1,10 +1,9 @@
 -- With enough rounds the meaning of statements, functions and tasks is never left open.
-use Rattle.std.proofs.Common.{◌≡◌, ℕ, zero, suc, ◌+◌, ◌*◌, ◌-◌, ◌<◌, ◌≤◌, List, [], ◌∷◌, ◌++◌, length, map, take, drop, Option, Some, None, refl, arith}
-use Rattle.std.specs.Prelude.{◌≢◌, Bool, true, false, ◌==◌, nat_lt, if◌then◌else◌, slice_get, slice_index}
+use Rattle.std.proofs.Common.{ℕ, zero, suc, ◌+◌, ◌*◌, ◌<◌, ◌≤◌, List, [], ◌∷◌, length, take, drop, Option, Some, None, arith}
+use Rattle.std.specs.Prelude.{Bool, true, false, ◌==◌, nat_lt, if◌then◌else◌, slice_get, slice_index}
 use Rattle.al_base.specs.declared.trap.Trap.TheVariants as trap
 use Rattle.al_event.specs.declared.act.Act.{Act}
 use Rattle.al_event.specs.declared.act.Act.TheVariants as act
-use Rattle.al_event.specs.declared.act.Block.TheVariants.{Frame as FrameBlock}
 use Rattle.al_event.specs.declared.act.Start.{Start}
 use Rattle.al_typed.specs.declared.ty.Ty.{Ty, out-Ty}
 use Rattle.al_typed.specs.declared.ty.Ty.TheOpen.{Ty-F}
@@ -20,15 +19,18 @@ use Rattle.al_typed.specs.declared.statement.TStmt.{TStmt, Empty, Block', Declar
 use Rattle.al_typed.specs.declared.statement.TStmt as stmt
 use Rattle.al_typed.specs.StatementForms as part
 use Rattle.al_typed.specs.Types.{is_void}
-use Rattle.al_typed.specs.Typed.{type_of, place_type, target_type}
-use Rattle.al_meaning.specs.Words.{bits_of, is_zero, is_below, truth, fitted_to}
-use Rattle.al_meaning.specs.Places.{function_at, block_size, has_block, words_in}
-use Rattle.al_meaning.specs.Items.{Bounds}
+use Rattle.al_typed.specs.Typed.{type_of, place_type}
+use Rattle.al_meaning.specs.Words.{bits_of, is_zero, is_below, fitted_to}
+use Rattle.al_meaning.specs.Places.{function_at, has_block, words_in}
+use Rattle.al_meaning.specs.Items.{Bounds, most_turns}
 use Rattle.al_meaning.specs.Parts.{first_of_two}
-use Rattle.al_meaning.specs.Step.{units_in, leaves_of, local_found, alt_branches, alt_exprs, bounds_exprs, bounds_of, next_turn, default_of, slots_of, most_slots, line_of_name}
-use Rattle.al_meaning.specs.Tasks.{most_turns, Answer, Env, Still, Outcome, Stuck, Unfinished, Rest, Task, ◌>>=◌, ◌>>◌, give, Ways, in_line, a_turn, traps, ask_in, stop_in}
+use Rattle.al_meaning.specs.Here.{units_in}
+use Rattle.al_meaning.specs.Calls.{default_of, slots_of, most_slots}
+use Rattle.al_meaning.specs.Evaluate.{leaves_of, local_found, alt_branches, alt_exprs}
+use Rattle.al_meaning.specs.Execute.{bounds_exprs, bounds_of, next_turn}
+use Rattle.al_meaning.specs.Tasks.{Answer, Env, Still, Outcome, Stuck, Rest, Task, ◌>>=◌, ◌>>◌, give, Ways, in_line, a_turn, traps, ask_in, stop_in}
 use Rattle.al_meaning.specs.Told.{value, told, save, local_here}
-use Rattle.al_meaning.specs.Meant.{Part, Given, Branching, communications, meant, meant_other, meant_all, evaluated, optionally, condition, values_of, initialized, start_of, starts_all, new_of, allocated, given_back, unallocated, then_next, in_loop, in_cases, while_rounds, do_rounds, for_rounds, set_turn, turns_of, iterated, rest_at, then_part, inside, went, went_on, alternated, selected, part_of_case, part_of_default, branchings, rest_of_round, rest_of_cases, again_while, again_do, again_for, part_from, part_from_other, part_from_row, freed, returned, become_in, jumped, jumps, store_parameters, take_block, body_meant, function_meant, function_or_stuck, called, task_told}
+use Rattle.al_meaning.specs.Meant.{Part, Given, Branching, communications, meant, meant_other, meant_all, evaluated, optionally, condition, values_of, initialized, start_of, starts_all, new_of, allocated, given_back, unallocated, then_next, in_loop, in_cases, while_rounds, do_rounds, for_rounds, set_turn, turns_of, iterated, rest_at, then_part, inside, went, went_on, alternated, selected, part_of_case, part_of_default, branchings, rest_of_round, rest_of_cases, again_while, again_do, again_for, part_from, part_from_other, part_from_row, freed, returned, become_in, jumped, jumps, store_parameters, body_meant, function_meant, function_or_stuck, called, task_told}
 use Rattle.al_meaning.specs.Laws.{LeaveNothingOpen}
 use Rattle.al_meaning.proofs.Endings.{Ends, Low, lower, stuck_ends, ask_ends, stop_ends, turn_ends, CallsEnd, if_ends, val, drop_ends, save_ends, saves_end, expr_ends, place_ends, aim_ends, object_ends, all_end}
 

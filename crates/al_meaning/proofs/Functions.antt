@@ -1,29 +1,32 @@
 -- A control does what the meaning says of functions and of tasks.
 use Rattle.std.proofs.Common.{◌≡◌, ℕ, zero, suc, ◌+◌, ◌^◌, List, [], ◌∷◌, ◌++◌, length, map, take, drop, Option, Some, None, refl, sym, ap, ◌∙◌, subst, arith}
-use Rattle.std.specs.Prelude.{◌≢◌, Bool, true, false, not, nat_lt, if◌then◌else◌, slice_get, slice_index, sum_by, unwrap_or}
+use Rattle.std.specs.Prelude.{Bool, true, false, not, nat_lt, if◌then◌else◌, slice_get, slice_index, sum_by, unwrap_or}
 use Rattle.al_base.specs.declared.trap.Trap.TheVariants as trap
 use Rattle.al_event.specs.declared.act.Act.TheVariants as act
 use Rattle.al_event.specs.declared.act.Block.TheVariants.{Frame as FrameBlock}
 use Rattle.al_event.specs.declared.act.Start.{Start}
-use Rattle.al_world.specs.Turns.{Moves, Turns, Asks}
+use Rattle.al_world.specs.Turns.{Moves, Asks}
 use Rattle.al_typed.specs.declared.program.Function.{Function as FunctionRow}
 use Rattle.al_typed.specs.declared.program.Local.{Local as LocalRow}
 use Rattle.al_typed.specs.declared.program.Program.{Program}
 use Rattle.al_meaning.specs.Words.{fitted_to}
 use Rattle.al_meaning.specs.Places.{function_at, locals_of, block_size, has_block, words_in}
-use Rattle.al_meaning.specs.Items.{Found, Work, Answered, TakeBlock, SetBlock, StoreParameter, CountReturn, Leave, Replace, Item, Frame, Control}
+use Rattle.al_meaning.specs.Items.{Found, Work, Answered, TakeBlock, SetBlock, StoreParameter, CountReturn, Replace, Item, Frame, Control, most_turns}
 use Rattle.al_meaning.specs.Parts.{item, to_do, going_on}
-use Rattle.al_meaning.specs.Step.{Here, here, Next, private_step, control_at, moves, only, ends, gives_block, with_given, function_here, items_from, units_in, local_found, store_parameter, begun, begun_function, begun_locals, block_work, parameter_work, default_of, line_of_name, slots_of, frame_slots, most_slots, enters}
-use Rattle.al_meaning.specs.Tasks.{most_turns, Answer, Env, Still, Outcome, Rest, Ways, give, in_line, ask_in, stop_in, turn_in, Stuck, Unfinished, ◌>>=◌}
+use Rattle.al_meaning.specs.Here.{Here, here, Next, moves, units_in}
+use Rattle.al_meaning.specs.Calls.{only, ends, gives_block, with_given, begun, begun_function, begun_locals, parameter_work, default_of, line_of_name, slots_of, frame_slots, most_slots}
+use Rattle.al_meaning.specs.Evaluate.{local_found}
+use Rattle.al_meaning.specs.Execute.{items_from}
+use Rattle.al_meaning.specs.Step.{private_step, store_parameter}
+use Rattle.al_meaning.specs.Tasks.{Answer, Env, Still, Outcome, Rest, Ways, give, ask_in, stop_in, turn_in, Stuck, ◌>>=◌}
 use Rattle.al_meaning.specs.Told.{save, local_here}
-use Rattle.al_meaning.specs.Meant.{Given, Part, meant, part_from, freed, returned, become_in, jumped, jumps, store_parameters, take_block, body_meant, function_meant, function_or_stuck, called, task_told}
+use Rattle.al_meaning.specs.Meant.{Given, Part, part_from, freed, returned, become_in, jumped, jumps, store_parameters, body_meant, function_meant, function_or_stuck, called, task_told}
 use Rattle.al_meaning.specs.Meaning.{start}
-use Rattle.al_meaning.specs.After.{task_asked}
 use Rattle.al_meaning.specs.Laws.{AskAsTold}
-use Rattle.al_meaning.proofs.Does.{Does, stuck, unfinished, one, asks, asks_words, one_word, stops, turns, branches, branching, task_does}
-use Rattle.al_meaning.proofs.Places.{at, place, save_from}
+use Rattle.al_meaning.proofs.Does.{Does, stuck, unfinished, one, asks, asks_words, one_word, stops, turns, branching, task_does}
+use Rattle.al_meaning.proofs.Places.{save_from}
 use Rattle.al_meaning.proofs.Expressions.{CallsDo}
-use Rattle.al_meaning.proofs.Ways.{framed, control, GoesOn, Leads, Bodies, Around, Within}
+use Rattle.al_meaning.proofs.Ways.{framed, control, GoesOn, Bodies, Around}
 use Rattle.al_meaning.proofs.Statements.{meant_does}
 use Rattle.al_meaning.proofs.Jumps.{Reaches, from_does}
 

@@ -1,11 +1,11 @@
 -- A control does what the meaning says from a label or rescue on.
-use Rattle.std.proofs.Common.{◌≡◌, ℕ, zero, suc, List, [], ◌∷◌, ◌++◌, Option, Some, None, refl}
+use Rattle.std.proofs.Common.{◌≡◌, ℕ, List, [], ◌∷◌, ◌++◌, Option, Some, None, refl}
 use Rattle.std.specs.Prelude.{Bool, true, false, ◌==◌, if◌then◌else◌}
 use Rattle.al_typed.specs.declared.statement.TStmt.{TStmt, Block', If', Switch', Alt', Held-TStmt-If-3, Row_of-TStmt, end_of-TStmt, more_of-TStmt}
 use Rattle.al_typed.specs.declared.statement.TStmt as stmt
 use Rattle.al_typed.specs.StatementForms as part
-use Rattle.al_meaning.specs.Items.{WhileAgain, DoCondition, ForNext, ForAgain, CasesEnd, Item, Frame}
-use Rattle.al_meaning.specs.Parts.{LoopEnd, border, item, to_do, statements, going_on, going_on_in, going_on_in_other, first_of_two}
+use Rattle.al_meaning.specs.Items.{WhileAgain, DoCondition, ForNext, CasesEnd, Item, Frame}
+use Rattle.al_meaning.specs.Parts.{LoopEnd, border, item, statements, going_on, going_on_in, going_on_in_other, first_of_two}
 use Rattle.al_meaning.specs.Tasks.{Env, Still, Rest, Ways}
 use Rattle.al_meaning.specs.Meant.{Part, meant, meant_all, in_loop, in_cases, inside, then_part, rest_of_round, rest_of_cases, again_while, again_do, again_for, part_from, part_from_other, part_from_row}
 use Rattle.al_meaning.proofs.Does.{one}

@@ -34,7 +34,11 @@ use Rattle.al_meaning.specs.Places.{function_at, locals_of, has_block, words_in}
 use Rattle.al_meaning.specs.Shown.{most_text, written}
 use Rattle.al_meaning.specs.Items.{Found, Words, Address, Local, Private, Nowhere, Argument, Bounds, Work, Eval, Find, Aim, Answered, Give, Drop, Unary, Negate, Binary, AndThen, OrElse, Truth, Advance, AdvanceCounted, Between, Convert, Part, Join, Point, Index, Within, AddressOf, Read, Look, Fetch, Fetched, Save, Put, Write, Assign, Update, Step, Clear, PassPlace, PassPointer, PassPart, Invoke, InvokePointer, Enter, InvokeInstead, Replace, TakeBlock, SetBlock, StoreParameter, Returns, CountReturn, Leave, Gather, Compose, Scan, Scanned, Terminates, Receives, Received, Sends, CanReceives, CanSends, Allocate, Unallocate, StartProc, StartTask, Do, Choose, Test, WhileTest, WhileAgain, DoCondition, DoTest, ForCondition, ForTest, ForNext, ForAgain, Bound, Iterate, NextTurn, Select, AltTalk, AltWent, CasesEnd, Item, Frame, Entering, Control}
 use Rattle.al_meaning.specs.Parts.{Border, Inside, LoopEnd, BodyEnd, border, exprs, targets, receiver_of, other_of, item, to_do, statements, behind_bodies, next_of_loop, behind_case, behind_default, Branching, branchings, first_of_two}
-use Rattle.al_meaning.specs.Step.{Here, here, Next, control_at, with_items, with_found, with_work, moves, does, function_here, value_taken, with_value, with_two, place_taken, with_place, at_address, with_address, words_before, places_before, pointee, units_in, drops, evaluated, object_work, object_count, call_work, joined, parameter_work, block_work, begun_function, begun, line_of_name, has_room, enters, named_by, invokes_found, with_given, leaves, gives_block, ends, default_of, local_found, gives_block, find_place, aim_at, read_place, fetch_units, save_at, write_units, saves, updated, saves_updated, passes_place, passes_part, and_dropped, eval, composes, compose, scanned, communications, alt_exprs, went_work, goes_into, allocates, gives_back, initializer_work, bounds_exprs, allocation_work, unallocation_work, optionally, do_statement, while_test, do_condition, for_condition, for_test, for_next, bounds_of, iterate, selects, select, cases_of, gives_quotient, store_parameter, step_work, step_frame, step_frames, step_entering, private_step, leaves_of, leaves_of_all}
+use Rattle.al_meaning.specs.Here.{Here, here, Next, control_at, with_items, with_found, with_work, moves, does, function_here, value_taken, with_value, with_two, place_taken, with_place, at_address, with_address, words_before, places_before, pointee, units_in, drops}
+use Rattle.al_meaning.specs.Calls.{evaluated, object_work, object_count, call_work, joined, parameter_work, block_work, begun_function, begun, line_of_name, has_room, enters, named_by, invokes_found, with_given, leaves, gives_block, ends, default_of, gives_block}
+use Rattle.al_meaning.specs.Evaluate.{local_found, find_place, aim_at, read_place, fetch_units, save_at, write_units, saves, updated, saves_updated, passes_place, passes_part, and_dropped, eval, composes, compose, scanned, communications, alt_exprs, went_work, goes_into, allocates, gives_back, leaves_of, leaves_of_all}
+use Rattle.al_meaning.specs.Execute.{initializer_work, bounds_exprs, allocation_work, unallocation_work, optionally, do_statement, while_test, do_condition, for_condition, for_test, for_next, bounds_of, iterate, selects, select, cases_of}
+use Rattle.al_meaning.specs.Step.{gives_quotient, store_parameter, step_work, step_frame, step_frames, step_entering, private_step}
 use Rattle.al_meaning.specs.Weight.{expr_weight, place_weight, target_weight, targets_weight, receiver_weight, row_weight, optional_weight, listed_weight, places_weight, bounds_weight, initializers_weight, communication_weight, statement_weight, other_weight, body_weight, else_weight, rest_of_while, rest_of_do, next_of_for, body_of_for, condition_of_for, cases_weight, own_weight, own_weights, begun_weight, work_weight, items_weight, frame_weight, frames_weight, entering_weight, control_weight}
 
 abbrev Falls : Program → ℕ → Next → Type 0

@@ -1,17 +1,18 @@
 -- A control does what the meaning says of loops.
-use Rattle.std.proofs.Common.{◌≡◌, ℕ, zero, suc, ◌+◌, List, [], ◌∷◌, ◌++◌, length, map, Option, Some, None, refl, sym, ap, ◌∙◌, subst}
+use Rattle.std.proofs.Common.{◌≡◌, ℕ, zero, suc, ◌+◌, List, [], ◌∷◌, Option, Some, None, refl}
 use Rattle.std.specs.Prelude.{Bool, true, false, if◌then◌else◌}
 use Rattle.al_typed.specs.declared.expression.TExpr.{TExpr}
 use Rattle.al_typed.specs.declared.statement.TStmt.{TStmt}
 use Rattle.al_typed.specs.StatementForms as part
-use Rattle.al_meaning.specs.Words.{is_zero, is_below, truth}
-use Rattle.al_meaning.specs.Items.{Found, Words, Work, Eval, Bounds, Iterate, NextTurn, WhileAgain, WhileTest, DoCondition, DoTest, ForCondition, ForTest, ForNext, ForAgain, Item, Frame, Control}
+use Rattle.al_meaning.specs.Words.{is_zero, is_below}
+use Rattle.al_meaning.specs.Items.{Found, Bounds, Iterate, NextTurn, WhileAgain, DoCondition, ForCondition, ForNext, ForAgain, Item, Frame, Control}
 use Rattle.al_meaning.specs.Parts.{item, to_do}
-use Rattle.al_meaning.specs.Step.{private_step, next_turn, while_test, for_test}
-use Rattle.al_meaning.specs.Tasks.{Env, Still, Outcome, Rest, Task, ◌>>=◌, ◌>>◌, give, Ways, in_line, a_turn}
+use Rattle.al_meaning.specs.Execute.{next_turn, while_test, for_test}
+use Rattle.al_meaning.specs.Step.{private_step}
+use Rattle.al_meaning.specs.Tasks.{Env, Still, Rest, Task, ◌>>◌, give, Ways, in_line, a_turn}
 use Rattle.al_meaning.specs.Told.{value, told}
 use Rattle.al_meaning.specs.Meant.{Part, condition, optionally, then_next, in_loop, while_rounds, do_rounds, for_rounds, set_turn, turns_of, iterated, evaluated}
-use Rattle.al_meaning.proofs.Does.{Does, stuck, unfinished, one, turns, branches, branching}
+use Rattle.al_meaning.proofs.Does.{unfinished, one, turns, branches, branching}
 use Rattle.al_meaning.proofs.Places.{at, place, val, DoesIt}
 use Rattle.al_meaning.proofs.Expressions.{expr_does}
 use Rattle.al_meaning.proofs.Ways.{Around, Within, Goes, in_body}

@@ -1,19 +1,17 @@
 -- A control does what the meaning says of values in places, and of what was found.
-use Rattle.std.proofs.Common.{◌≡◌, ℕ, zero, suc, ◌+◌, ◌^◌, List, [], ◌∷◌, ◌++◌, length, map, take, drop, Option, Some, None, refl, sym, ap, ◌∙◌, subst, arith, append-nil}
-use Rattle.std.specs.Prelude.{Bool, true, false, if◌then◌else◌, slice_get, slice_index, sum_by}
-use Rattle.al_base.specs.declared.trap.Trap.TheVariants as trap
-use Rattle.al_event.specs.declared.act.Act.TheVariants as act
-use Rattle.al_world.specs.Turns.{Moves, Turns, Asks}
+use Rattle.std.proofs.Common.{◌≡◌, ℕ, suc, ◌+◌, ◌^◌, List, [], ◌∷◌, ◌++◌, length, map, drop, Option, Some, None, refl, sym, ap, ◌∙◌, subst, arith, append-nil}
+use Rattle.std.specs.Prelude.{Bool, true, false, if◌then◌else◌, sum_by}
 use Rattle.al_typed.specs.declared.ty.Ty.{Ty}
 use Rattle.al_typed.specs.declared.layout.Unit.{Unit as StorageUnit}
 use Rattle.al_typed.specs.declared.expression.Passed.{Passed}
 use Rattle.al_typed.specs.declared.expression.Passed.TheVariants as passed
-use Rattle.al_typed.specs.declared.program.Program.{Program}
-use Rattle.al_meaning.specs.Words.{bits_of, sum}
-use Rattle.al_meaning.specs.Places.{function_at, words_in}
-use Rattle.al_meaning.specs.Items.{Found, Words, Address, Local, Private, Nowhere, Work, Fetch, Fetched, Read, Save, Write, Give, Drop, Item, Frame, Control}
+use Rattle.al_meaning.specs.Places.{function_at}
+use Rattle.al_meaning.specs.Items.{Found, Words, Address, Local, Private, Nowhere, Work, Fetch, Read, Save, Write, Drop, Item, Frame, Control}
 use Rattle.al_meaning.specs.Parts.{item}
-use Rattle.al_meaning.specs.Step.{Here, here, Next, private_step, with_found, with_given, with_value, with_values, words_before, places_before, slots_of, frame_slots, enters, units_in, read_place, save_at, saves, saves_and_gives, saves_updated, gives_quotient, passes_place, passes_part, count_passed}
+use Rattle.al_meaning.specs.Here.{Here, here, Next, with_found, with_values, words_before, places_before, units_in}
+use Rattle.al_meaning.specs.Calls.{with_given, slots_of, frame_slots, count_passed}
+use Rattle.al_meaning.specs.Evaluate.{save_at, saves, saves_and_gives, saves_updated, passes_place, passes_part}
+use Rattle.al_meaning.specs.Step.{private_step, gives_quotient}
 use Rattle.al_meaning.specs.Tasks.{Env, Still, Outcome, Rest, Ways}
 use Rattle.al_meaning.specs.Told.{needed, drop_checked, at_address, load_units, read, store_units, save, save_all, saved, saved_or_divides, quotient, passed_at, passed_part}
 use Rattle.al_meaning.proofs.Does.{Does, stuck, one, asks, asks_words, one_word, stops}

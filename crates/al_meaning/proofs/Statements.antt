@@ -1,37 +1,39 @@
 -- A control does what the meaning says of statements.
 use Rattle.std.proofs.Common.{◌≡◌, ℕ, zero, suc, ◌+◌, List, [], ◌∷◌, ◌++◌, length, map, drop, Option, Some, None, refl, sym, ap, ◌∙◌, subst, arith, append_assoc}
 use Rattle.std.specs.Prelude.{Bool, true, false, ◌==◌, if◌then◌else◌, slice_get, slice_index}
-use Rattle.std.specs.List.{flat_map}
 use Rattle.al_base.specs.declared.trap.Trap.TheVariants as trap
 use Rattle.al_event.specs.declared.act.Act.TheVariants as act
-use Rattle.al_world.specs.Turns.{Moves, Turns, Asks}
 use Rattle.al_typed.specs.declared.statement.TBounds.{TBounds}
 use Rattle.al_typed.specs.declared.statement.TCommunication.{TCommunication}
 use Rattle.al_typed.specs.declared.statement.TStmt.{TStmt, Empty, Block', Declare, Value, If', Switch', Case, Default, Alt', AltCase, Par, Raise, Goto, Return, Become, Break, Continue, Alloc, Unalloc, Check, Proc, Task as TaskStmt, Held-TStmt-If-3, Row_of-TStmt, end_of-TStmt, more_of-TStmt}
 use Rattle.al_typed.specs.declared.statement.TStmt as stmt
 use Rattle.al_typed.specs.StatementForms as part
 use Rattle.al_meaning.specs.Words.{bits_of, is_zero}
-use Rattle.al_meaning.specs.Items.{Found, Words, Work, Eval, Bound, ForCondition, AltTalk, AltWent, CasesEnd, InvokeInstead, Item, Frame, Control}
+use Rattle.al_meaning.specs.Items.{Bound, ForCondition, AltTalk, CasesEnd, InvokeInstead, Item, Frame, Control}
 use Rattle.al_meaning.specs.Parts.{item, to_do, statements, other_of, behind_case, behind_default, behind_bodies, next_of_loop, first_of_two}
 use Rattle.al_meaning.specs.Parts as parts
-use Rattle.al_meaning.specs.Step.{private_step, bounds_exprs, bounds_of, joined, starts_other, selects, alt_exprs, alt_branches, goes_into, went_work, evaluated}
-use Rattle.al_meaning.specs.Step as step
-use Rattle.al_meaning.specs.Tasks.{Env, Still, Outcome, Rest, Task, give, Ways, in_line, traps, asks}
+use Rattle.al_meaning.specs.Calls.{joined, evaluated}
+use Rattle.al_meaning.specs.Evaluate.{alt_exprs, alt_branches, goes_into, went_work}
+use Rattle.al_meaning.specs.Execute.{bounds_exprs, bounds_of, starts_other, selects}
+use Rattle.al_meaning.specs.Step.{private_step}
+use Rattle.al_meaning.specs.Here as here
+use Rattle.al_meaning.specs.Evaluate as evaluate
+use Rattle.al_meaning.specs.Tasks.{Env, Still, Rest, give, Ways, in_line, traps, asks}
 use Rattle.al_meaning.specs.Meant.{Part, meant, meant_other, meant_all, part_of_case, part_of_default, values_of, went_on, selected, in_cases, rest_at}
 use Rattle.al_meaning.specs.Meant as told
-use Rattle.al_meaning.proofs.Does.{Does, stuck, one, asks_words, stops, turns, branches}
+use Rattle.al_meaning.proofs.Does.{stuck, one, asks_words, stops, turns, branches}
 use Rattle.al_meaning.proofs.Does as does
-use Rattle.al_meaning.proofs.Places.{pushed, values_taken, at, place, val, DoesIt}
+use Rattle.al_meaning.proofs.Places.{values_taken, at, place, val, DoesIt}
 use Rattle.al_meaning.proofs.Expressions.{expr_does}
 use Rattle.al_meaning.proofs.Ways.{Around, Within, Goes, before_row, in_selection}
-use Rattle.al_meaning.proofs.Clauses.{laid, shifted, evaluated_does, optionally_does, values_do, initialized_does, start_does, procs_do, tasks_do, allocated_does, unallocated_does, went_does}
+use Rattle.al_meaning.proofs.Clauses.{shifted, evaluated_does, optionally_does, values_do, initialized_does, start_does, procs_do, tasks_do, allocated_does, unallocated_does, went_does}
 use Rattle.al_meaning.proofs.Loops.{while_does, do_does, for_does, iterated_does}
 
 bounds_length : (bs : List TBounds) → length (bounds_exprs bs) ≡ length bs + length bs
 bounds_length [] = omega arith
 bounds_length (b ∷ bs) = omega (arith, bounds_length bs)
 
-same_communications : (n : ℕ) {m : _} (row : Row_of-TStmt m) → told.communications (told.branchings row n) ≡ step.communications (parts.branchings row)
+same_communications : (n : ℕ) {m : _} (row : Row_of-TStmt m) → told.communications (told.branchings row n) ≡ evaluate.communications (parts.branchings row)
 same_communications n end_of-TStmt = refl
 same_communications n (more_of-TStmt (AltCase c) rest) = ap (λ cs. c ∷ cs) (same_communications n rest)
 same_communications n (more_of-TStmt s rest) = same_communications n rest
@@ -85,13 +87,13 @@ module _ (below : List Frame) where
   went_on_does (Some a) None x words w items env s next around within go e = absurd x
 
   break_does : (levels : ℕ) (w : Ways) (items : List Item) (env : Env) (s : Still) {c : Control} → Within w below items
-      → private_step w.program c s.privates ≡ step.moves (place w below env (behind_bodies levels items) [] s)
+      → private_step w.program c s.privates ≡ here.moves (place w below env (behind_bodies levels items) [] s)
       → DoesIt w below (rest_at levels w.behind env s) c s
   break_does zero w items env s within e = stuck
   break_does (suc k) w items env s within e = one e (within.behinds k env s)
 
   continue_does : (levels : ℕ) (w : Ways) (items : List Item) (env : Env) (s : Still) {c : Control} → Within w below items
-      → private_step w.program c s.privates ≡ step.moves (place w below env (next_of_loop levels items) [] s)
+      → private_step w.program c s.privates ≡ here.moves (place w below env (next_of_loop levels items) [] s)
       → DoesIt w below (rest_at levels w.again env s) c s
   continue_does zero w items env s within e = stuck
   continue_does (suc k) w items env s within e = one e (within.agains k env s)
@@ -100,9 +102,9 @@ module _ (below : List Frame) where
     alt_does : (line shape : _) (body : Row_of-TStmt _) → ((i : ℕ) → BranchesAlike (slice_get (told.branchings body n) i) (slice_get (parts.branchings body) i))
         → (w : Ways) (items : List Item) (env : Env) (s : Still) (next : Rest) → Around w below → Within w below items → Goes w below items next
         → DoesIt w below (told.alternated (told.branchings body n) w next env s)
-        (at w below env (map (item w.line) (evaluated (alt_exprs (step.communications (parts.branchings body))) ++ AltTalk (Alt' line shape body) ∷ []) ++ items) []) s
+        (at w below env (map (item w.line) (evaluated (alt_exprs (evaluate.communications (parts.branchings body))) ++ AltTalk (Alt' line shape body) ∷ []) ++ items) []) s
     alt_does line shape body alike w items env s next around within go =
-        let cs : List TCommunication = step.communications (parts.branchings body) in
+        let cs : List TCommunication = evaluate.communications (parts.branchings body) in
         subst (λ q. DoesIt w below (values_of (alt_exprs q) w env s (λ values env s. asks w (act.Talk (alt_branches w.program q values)) env s (λ words env s.
         went_on (slice_get (told.branchings body n) (slice_index words 0)) (drop 1 words) (in_cases next w) env s (λ _. next))))
         (at w below env (map (item w.line) (evaluated (alt_exprs cs) ++ AltTalk (Alt' line shape body) ∷ []) ++ items) []) s) (sym (same_communications n body))

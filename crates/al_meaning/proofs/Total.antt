@@ -3,7 +3,8 @@ use Rattle.std.proofs.Common.{◌≡◌, ℕ, zero, suc, ◌≤◌, List, refl, 
 use Rattle.al_world.specs.Turns.{Moves, Turns, Asks, to_turn}
 use Rattle.al_typed.specs.declared.program.Program.{Program}
 use Rattle.al_meaning.specs.Items.{Control}
-use Rattle.al_meaning.specs.Step.{Next, private_step}
+use Rattle.al_meaning.specs.Here.{Next}
+use Rattle.al_meaning.specs.Step.{private_step}
 use Rattle.al_meaning.specs.Weight.{control_weight}
 use Rattle.al_meaning.specs.Laws.{IsTurnOrAction, ComeToActions}
 use Rattle.al_meaning.proofs.Lighter.{lighter}

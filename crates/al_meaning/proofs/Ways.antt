@@ -1,15 +1,18 @@
 -- Where a control goes on, as the ways of a meaning say.
-use Rattle.std.proofs.Common.{◌≡◌, ℕ, zero, suc, ◌+◌, List, [], ◌∷◌, ◌++◌, map, Option, Some, None, refl, sym, ap, ◌∙◌, subst}
+use Rattle.std.proofs.Common.{◌≡◌, ℕ, zero, suc, ◌+◌, List, [], ◌∷◌, ◌++◌, Option, None, refl, sym, ap, subst}
 use Rattle.std.specs.Prelude.{unwrap_or, sum_by}
 use Rattle.al_typed.specs.declared.program.Program.{Program}
-use Rattle.al_typed.specs.declared.statement.TStmt.{TStmt, Case, Default, AltCase, Row_of-TStmt, end_of-TStmt, more_of-TStmt}
+use Rattle.al_typed.specs.declared.statement.TStmt.{Case, Default, AltCase, Row_of-TStmt, end_of-TStmt, more_of-TStmt}
 use Rattle.al_meaning.specs.Places.{function_at}
-use Rattle.al_meaning.specs.Items.{Found, Work, Replace, CasesEnd, Item, Frame, Control}
-use Rattle.al_meaning.specs.Parts.{Border, Inside, LoopEnd, BodyEnd, border, item, to_do, statements, behind_bodies, next_of_loop}
-use Rattle.al_meaning.specs.Step.{Here, here, Next, private_step, moves, only, ends, gives_block, frame_slots, slots_of, items_from}
-use Rattle.al_meaning.specs.Tasks.{Env, Still, Outcome, Rest, Ways, in_line}
-use Rattle.al_meaning.specs.Meant.{Given, Part, rest_at, in_loop, in_cases}
-use Rattle.al_meaning.proofs.Does.{Does, stuck, one}
+use Rattle.al_meaning.specs.Items.{Found, Replace, CasesEnd, Item, Frame, Control}
+use Rattle.al_meaning.specs.Parts.{Inside, LoopEnd, BodyEnd, border, item, statements, behind_bodies, next_of_loop}
+use Rattle.al_meaning.specs.Here.{here, moves}
+use Rattle.al_meaning.specs.Calls.{only, ends, gives_block, frame_slots, slots_of}
+use Rattle.al_meaning.specs.Execute.{items_from}
+use Rattle.al_meaning.specs.Step.{private_step}
+use Rattle.al_meaning.specs.Tasks.{Env, Still, Outcome, Rest, Ways}
+use Rattle.al_meaning.specs.Meant.{Given, rest_at}
+use Rattle.al_meaning.proofs.Does.{Does}
 use Rattle.al_meaning.proofs.Expressions.{CallsDo}
 
 module _ (p : Program) (function : ℕ) (below : List Frame) where

@@ -30,7 +30,7 @@ use Rattle.al_typed.specs.Types.{int, is_array, is_void}
 use Rattle.al_typed.specs.Layout.{layout, layout_of, layouts_after, words_of, rounded, repeated, followed, in_order}
 use Rattle.al_typed.specs.Measures.{slots_of, pieces, place_pieces, target_pieces, row_pieces, receiver_pieces, statement_pieces, body_pieces, other_pieces, pieces_of}
 use Rattle.al_meaning.specs.Shown.{kind_of}
-use Rattle.al_meaning.specs.Step.{pointee}
+use Rattle.al_meaning.specs.Here.{pointee}
 use Rattle.al_meaning.specs.Weight.{own_weight, work_weight, control_weight}
 use Rattle.al_meaning.specs.Meaning.{source, run}
 

@@ -171,3 +171,7 @@ pub record Entering : Type 0 where
 pub record Control : Type 0 where
   pub entering : Option Entering
   pub frames : List Frame
+
+-- after so many turns without an action a task asks a Pause
+abbrev pub most_turns : ℕ
+most_turns = 4096

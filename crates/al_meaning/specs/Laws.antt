@@ -3,10 +3,11 @@ use Rattle.std.specs.Prelude.{ℕ, ◌+◌, ◌*◌, ◌≤◌, ◌≡◌, ◌�
 use Rattle.al_event.specs.declared.act.Start.{Start}
 use Rattle.al_world.specs.Turns.{Moves, Turns, Asks, to_turn}
 use Rattle.al_typed.specs.declared.program.Program.{Program}
-use Rattle.al_meaning.specs.Items.{Control}
-use Rattle.al_meaning.specs.Step.{Next, private_step}
+use Rattle.al_meaning.specs.Items.{Control, most_turns}
+use Rattle.al_meaning.specs.Here.{Next}
+use Rattle.al_meaning.specs.Step.{private_step}
 use Rattle.al_meaning.specs.Weight.{control_weight}
-use Rattle.al_meaning.specs.Tasks.{most_turns, Answer, Stuck, Unfinished}
+use Rattle.al_meaning.specs.Tasks.{Answer, Stuck, Unfinished}
 use Rattle.al_meaning.specs.Meant.{task_told}
 use Rattle.al_meaning.specs.After.{task_asked}
 

@@ -4,6 +4,10 @@ pub mod Shown
 pub mod Alike
 pub mod Items
 pub mod Parts
+pub mod Here
+pub mod Calls
+pub mod Evaluate
+pub mod Execute
 pub mod Step
 pub mod Weight
 pub mod Meaning

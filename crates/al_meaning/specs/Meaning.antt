@@ -11,13 +11,10 @@ use Rattle.al_typed.specs.declared.program.Function.{Function}
 use Rattle.al_typed.specs.declared.program.Program.{Program}
 use Rattle.al_typed.specs.Typed.{parameter_types}
 use Rattle.al_meaning.specs.Places.{opening_blocks, fresh_privates, function_at, words_in}
-use Rattle.al_meaning.specs.Items.{Control}
-use Rattle.al_meaning.specs.Step.{private_step, begun, with_given}
+use Rattle.al_meaning.specs.Items.{Control, most_turns}
+use Rattle.al_meaning.specs.Calls.{begun, with_given}
+use Rattle.al_meaning.specs.Step.{private_step}
 use Rattle.al_meaning.specs.Weight.{control_weight}
-
--- after so many turns without an action a task asks a Pause
-abbrev pub most_turns : ℕ
-most_turns = 4096
 
 -- private steps up to the next action
 abbrev pub ask : Program → Control → List ℕ → Asked Control (List ℕ)

@@ -21,10 +21,13 @@ use Rattle.al_typed.specs.StatementForms as part
 use Rattle.al_typed.specs.Typed.{type_of, place_type, target_type}
 use Rattle.al_meaning.specs.Words.{bits_of, is_zero, truth, is_below, converted, fitted_to}
 use Rattle.al_meaning.specs.Places.{function_at, block_size, has_block, words_in}
-use Rattle.al_meaning.specs.Items.{Bounds}
+use Rattle.al_meaning.specs.Items.{Bounds, most_turns}
 use Rattle.al_meaning.specs.Parts.{first_of_two}
-use Rattle.al_meaning.specs.Step.{size_in, units_in, joined, leaves_of, alt_branches, alt_exprs, bounds_exprs, begun_locals, line_of_name, slots_of, most_slots, default_of, bounds_of, next_turn}
-use Rattle.al_meaning.specs.Tasks.{most_turns, Answer, Still, Outcome, Env, Rest, Task, ◌>>=◌, ◌>>◌, give, stuck, leave_to, if_zero, ask_in, stop_in, turn_in, Ways, in_line, asks, traps, a_turn, calls, Unfinished, Stuck}
+use Rattle.al_meaning.specs.Here.{size_in, units_in}
+use Rattle.al_meaning.specs.Calls.{joined, begun_locals, line_of_name, slots_of, most_slots, default_of}
+use Rattle.al_meaning.specs.Evaluate.{leaves_of, alt_branches, alt_exprs}
+use Rattle.al_meaning.specs.Execute.{bounds_exprs, bounds_of, next_turn}
+use Rattle.al_meaning.specs.Tasks.{Answer, Still, Outcome, Env, Rest, Task, ◌>>=◌, ◌>>◌, give, stuck, leave_to, if_zero, ask_in, stop_in, turn_in, Ways, in_line, asks, traps, a_turn, calls, Unfinished, Stuck}
 use Rattle.al_meaning.specs.Told.{value, dropped, save, save_all, local_here, told, found, aimed, told_object, told_all}
 
 -- ---- statements

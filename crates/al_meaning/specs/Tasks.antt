@@ -9,10 +9,7 @@ use Rattle.al_event.specs.declared.act.Act.TheVariants as act
 use Rattle.al_world.specs.Control.{fitted}
 use Rattle.al_typed.specs.declared.program.Program.{Program}
 use Rattle.al_meaning.specs.Words.{is_zero}
-
--- after so many turns without an action a task asks a Pause
-abbrev pub most_turns : ℕ
-most_turns = 4096
+use Rattle.al_meaning.specs.Items.{most_turns}
 
 -- the answer to an action, and the private globals of the proc by then
 pub record Answer : Type 0 where

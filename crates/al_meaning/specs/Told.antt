@@ -23,7 +23,9 @@ use Rattle.al_meaning.specs.Places.{text_place, private_place, function_address,
 use Rattle.al_meaning.specs.Shown.{most_text, kind_of, written}
 use Rattle.al_meaning.specs.Items.{Found, Words, Address, Local, Private, Nowhere, Argument}
 use Rattle.al_meaning.specs.Parts.{exprs}
-use Rattle.al_meaning.specs.Step.{pointee, size_in, units_in, member_type, joined, local_found, outer_found, global_found, put_at, leaves_of, updated, next_value, goes_back, step_gives, arguments_of, receiving, sending, named_by}
+use Rattle.al_meaning.specs.Here.{pointee, size_in, units_in, member_type}
+use Rattle.al_meaning.specs.Calls.{joined, named_by}
+use Rattle.al_meaning.specs.Evaluate.{local_found, outer_found, global_found, put_at, leaves_of, updated, next_value, goes_back, step_gives, arguments_of, receiving, sending}
 use Rattle.al_meaning.specs.Tasks.{Task, ◌>>=◌, ◌>>◌, give, stuck, if_zero, Ways, asks, stops, traps, asks_word, calls}
 
 -- ---- values and places
@@ -150,7 +152,7 @@ compose w [] arguments text = do
   nothing
 compose w (print.Byte b ∷ pieces) arguments text = composed w (compose w pieces arguments) text (b ∷ [])
 compose w (print.Percent ∷ pieces) arguments text = composed w (compose w pieces arguments) text (37 ∷ [])
-compose w (print.Text ∷ pieces) (a ∷ arguments) text = scan (most_text + 2) w (compose w pieces arguments) (bits_of a.words) text
+compose w (print.Text ∷ pieces) (a ∷ arguments) text = scan (most_text + 2) w (compose w pieces arguments) (slice_index a.words 0) text
 compose w (verb ∷ pieces) (a ∷ arguments) text = composed w (compose w pieces arguments) text (written verb a.ty a.words)
 compose w (verb ∷ pieces) [] text = stuck
 
@@ -270,7 +272,7 @@ abbrev mutual
   told (form.send t chan e) w = do
     c ← value (told chan w)
     v ← value (told e w)
-    asks w (act.Talk (sending w.program (type_of e) (bits_of c) v ∷ []))
+    asks w (act.Talk (sending w.program (type_of e) (slice_index c 0) v ∷ []))
     nothing
   told (form.can_receive t chan) w = do
     c ← value (told chan w)

@@ -15,7 +15,7 @@ use Rattle.al_typed.specs.declared.statement.TStmt as stmt
 use Rattle.al_typed.specs.ExpressionForms as form
 use Rattle.al_typed.specs.StatementForms as part
 use Rattle.al_meaning.specs.Items.{Work, Look, Read, Fetched, Save, Put, Update, Step, Clear, PassPlace, PassPointer, StoreParameter, Replace, Eval, Find, Aim, AndThen, OrElse, Assign, Gather, Compose, Scan, Scanned, Do, Choose, WhileTest, DoCondition, ForCondition, ForTest, ForNext, Bound, Iterate, Select, AltTalk, AltWent, Enter, Item, Frame, Entering, Control}
-use Rattle.al_meaning.specs.Step.{begun}
+use Rattle.al_meaning.specs.Calls.{begun}
 
 abbrev mutual
   pub expr_weight : TExpr → ℕ

@@ -18,10 +18,11 @@ use Rattle.al_typed.specs.WellTyped.{result_kind}
 
 -- ---- integers
 
--- the bits of an integer
+-- the bits of an integer, which has one word or two
 abbrev pub bits_of : List ℕ → ℕ
 bits_of [] = 0
-bits_of (w ∷ ws) = w + 2 ^ 32 * bits_of ws
+bits_of (w ∷ []) = w
+bits_of (low ∷ high ∷ _) = low + 2 ^ 32 * high
 
 -- the words of an integer of a kind
 abbrev pub words_with : ℕ → ℕ → List ℕ
