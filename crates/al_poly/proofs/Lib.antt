@@ -1,0 +1,9 @@
+pub mod ConcreteIs
+pub mod WrittenIs
+pub mod TypesAre
+pub mod ArraysAre
+pub mod RulesAre
+pub mod InstancesAre
+pub mod AnswersAre
+pub mod SameItself
+pub mod ClosedIs
