@@ -1,0 +1,2 @@
+pub mod SameIs
+pub mod ConversionsAre

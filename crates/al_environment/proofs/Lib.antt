@@ -1,0 +1,2 @@
+pub mod FirstsAre
+pub mod WrittenIs

@@ -1,0 +1,3 @@
+pub mod Firsts
+pub mod Lookups
+pub mod Written
