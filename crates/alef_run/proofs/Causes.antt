@@ -1,88 +1,308 @@
 -- From why a call ends as it does to which end each cause has.
-use Rattle.std.proofs.Common.{◌≡◌, ℕ, ◌<◌, List, Option, Some, None, refl, ap, arith, inl, inr}
+use Rattle.std.proofs.Common.{◌≡◌, ℕ, ◌<◌, List, Bool, true, false, cond, Option, Some, None, Err, Ok, refl, sym, ap, ◌∙◌, subst, arith, inl, inr}
 use Rattle.std.specs.Prelude.{◌⊎◌}
+use Rattle.al_base.specs.declared.over.Over.{Over}
 use Rattle.al_base.specs.declared.over.Over.TheVariants.{Done}
 use Rattle.al_host.specs.Outside.{Content, Faulted}
 use Rattle.al_first.specs.declared.form.Form.{Form}
 use Rattle.al_first.specs.Form.{IsForm}
-use Rattle.alef_run.specs.Words.{file_of}
-use Rattle.alef_run.specs.Call.{Call, Ends, IsMissing, LacksText, HasNoForm, named_text, text_by}
+use Rattle.al_words.specs.declared.job.Mode.{Mode}
+use Rattle.al_words.specs.declared.job.Mode.TheVariants.{Run, Replay, Recorded, Build, Exec, Check, Sample, Race, Step, Link}
+use Rattle.al_words.specs.declared.job.Job.{Job}
+use Rattle.rv_isa.specs.declared.image.Contents.{Contents}
+use Rattle.rv_image.specs.declared.fault.ImageFault.{ImageFault}
+use Rattle.rv_image.specs.Spelling.{IsImage}
+use Rattle.rv_image.specs.Reading.{reading}
+use Rattle.rv_image.proofs.Again.{image_again}
+use Rattle.alef_run.specs.Call.{Call, LacksText, text_in}
+use Rattle.alef_run.specs.RunMode.{EndsRun, HasNoForm}
+use Rattle.alef_run.specs.ExecMode.{EndsExec, RanImage}
+use Rattle.alef_run.specs.Modes.{EndsIdle, EndsIn, EndsBy, is_built, built}
 use Rattle.alef_run.specs.declared.report.End.{End}
-use Rattle.alef_run.specs.declared.report.End.TheVariants.{Ran, Words, ReadFault, Refused, WriteFault, NoMemory}
+use Rattle.alef_run.specs.declared.report.End.TheVariants.{Ran, Words, ReadFault, Refused, BadImage, WriteFault, NoMemory}
 use Rattle.alef_run.specs.declared.report.Refused.TheVariants.{Form as Other}
 
-pub words_end : (call : Call) (end : End) → Ends call end → file_of call.words ≡ None → end ≡ Words
-words_end call (Ran over) e none = absurd (e.2.1.read.job none)
-words_end call WriteFault e none = absurd (e.1.1.read.job none)
-words_end call Words e none = refl
-words_end call ReadFault e none = absurd (e.0 none)
-words_end call (Refused reason) e none = absurd (e.0.job none)
-words_end call NoMemory e none = absurd (e.0.job none)
+-- ---- the job of the words
 
-pub words_cause : (call : Call) (end : End) → Ends call end → end ≡ Words → file_of call.words ≡ None
-words_cause call (Ran over) e is = cc
-words_cause call WriteFault e is = cc
-words_cause call Words e is = e.0
-words_cause call ReadFault e is = cc
-words_cause call (Refused reason) e is = cc
-words_cause call NoMemory e is = cc
+-- a job of a mode that is built
+pub job_was : (o : Option Job) (job : Job) → built o ≡ Some job → o ≡ Some job
+job_was None job e = absurd (cc)
+job_was (Some j) job e = on (is_built j.mode) e
+  where
+    on : (b : Bool) → cond b (Some j) None ≡ Some job → Some j ≡ Some job
+    on true e = e
+    on false e = absurd (cc)
 
-some_word : {A : Type 0} {o : Option A} {a : A} → o ≡ Some a → o ≡ None → ⊥
-some_word is none = cc
-
-pub missing_end : (call : Call) (end : End) → Ends call end → IsMissing call.words call.told → end ≡ ReadFault
-missing_end call (Ran over) e m = absurd (e.2.1.read.found m)
-missing_end call WriteFault e m = absurd (e.1.1.read.found m)
-missing_end call Words e m = absurd (some_word m.1 e.0)
-missing_end call ReadFault e m = refl
-missing_end call (Refused reason) e m = absurd (e.0.found m)
-missing_end call NoMemory e m = absurd (e.0.found m)
-
-pub host_end : (call : Call) (end : End) → Ends call end → call.host_before < call.host_after → end ≡ ReadFault
-host_end call (Ran over) e rose = let calm = e.2.1.read.calm in absurd (omega (arith, calm))
-host_end call WriteFault e rose = let calm = e.1.1.read.calm in absurd (omega (arith, calm))
-host_end call Words e rose = let calm = e.1 in absurd (omega (arith, calm))
-host_end call ReadFault e rose = refl
-host_end call (Refused reason) e rose = let calm = e.0.calm in absurd (omega (arith, calm))
-host_end call NoMemory e rose = let calm = e.0.calm in absurd (omega (arith, calm))
-
-pub out_end : (call : Call) (end : End) → Ends call end → call.out_before < call.out_after → end ≡ WriteFault
-out_end call (Ran over) e rose = let calm = e.1 in absurd (omega (arith, calm))
-out_end call WriteFault e rose = refl
-out_end call Words e rose = let calm = e.2.calm in absurd (omega (arith, calm))
-out_end call ReadFault e rose = let calm = e.2.calm in absurd (omega (arith, calm))
-out_end call (Refused reason) e rose = let calm = e.2.calm in absurd (omega (arith, calm))
-out_end call NoMemory e rose = let calm = e.1.calm in absurd (omega (arith, calm))
-
-no_job : (file : Option (List ℕ)) (told : Option Content) (text : List ℕ) → text_by file told ≡ Some text → file ≡ None → ⊥
-no_job None told text is none = cc
-no_job (Some file) told text is none = cc
-
-pub refused_end : (call : Call) (end : End) → Ends call end → (text : List ℕ) → named_text call.words call.told ≡ Some text → HasNoForm text
-    → (end ≡ Refused Other) ⊎ ((end ≡ ReadFault) ⊎ (end ≡ NoMemory))
-refused_end call (Ran over) e text is none_has = absurd (none_has e.2.0 (e.2.1.text text is))
-refused_end call WriteFault e text is none_has = absurd (none_has e.1.0 (e.1.1.text text is))
-refused_end call Words e text is none_has = absurd (no_job (file_of call.words) call.told text is e.0)
-refused_end call ReadFault e text is none_has = inr (inl refl)
-refused_end call (Refused Other) e text is none_has = inl refl
-refused_end call NoMemory e text is none_has = inr (inr refl)
-
-not_missing : (o : Option (List ℕ)) (told : Option Content) (text file : List ℕ) → text_by o told ≡ Some text → o ≡ Some file → LacksText told file → ⊥
-not_missing None told text file is e lacks = cc
-not_missing (Some name) None text file is e lacks = cc
-not_missing (Some name) (Some content) text file is e lacks = cc
+job_built : (o : Option Job) (job : Job) → built o ≡ Some job → is_built job.mode ≡ true
+job_built None job e = absurd (cc)
+job_built (Some j) job e = on (is_built j.mode) refl e
+  where
+    on : (b : Bool) → is_built j.mode ≡ b → cond b (Some j) None ≡ Some job → is_built job.mode ≡ true
+    on true is e = let same : j ≡ job = cc in ap (λ (j : Job). is_built j.mode) (sym same) ∙ is
+    on false is e = absurd (cc)
 
 neither : {A B : Type 0} → A ⊎ B → (A → ⊥) → (B → ⊥) → ⊥
 neither (inl a) f g = f a
 neither (inr b) f g = g b
 
-pub complete_end : (call : Call) (end : End) → Ends call end → (text : List ℕ) (form : Form) → named_text call.words call.told ≡ Some text
-    → IsForm text form → (Faulted call.host_before call.host_after → ⊥) → (Faulted call.out_before call.out_after → ⊥)
-    → (end ≡ Ran Done) ⊎ (end ≡ NoMemory)
-complete_end call (Ran over) e text form is f calm calm' = inl (ap Ran e.0)
-complete_end call WriteFault e text form is f calm calm' = absurd (calm' e.0)
-complete_end call Words e text form is f calm calm' = absurd (no_job (file_of call.words) call.told text is e.0)
-complete_end call ReadFault e text form is f calm calm' =
-    absurd (neither e.1 calm (λ m. not_missing (file_of call.words) call.told text m.0 is m.1 m.2))
-complete_end call (Refused reason) e text form is f calm calm' = absurd (e.1 text is form f)
-complete_end call NoMemory e text form is f calm calm' = inr refl
+not_missing : (told : Option Content) (text file : List ℕ) → text_in told file ≡ Some text → LacksText told file → ⊥
+not_missing None text file is lacks = lacks
+not_missing (Some content) text file is lacks = cc
+
+module _ (call : Call) where
+  -- what follows from each way to end follows from the end
+  by_mode : (A : Type 0) (end : End) (mode : Mode) (job : Job) → (EndsIdle call end → A) → (EndsRun job.file call end → A) → (EndsExec job call end → A) → EndsIn mode job call end → A
+  by_mode A end Run job idle run exec e = run e
+  by_mode A end Exec job idle run exec e = exec e
+  by_mode A end Replay job idle run exec e = idle e
+  by_mode A end Recorded job idle run exec e = idle e
+  by_mode A end Build job idle run exec e = idle e
+  by_mode A end Check job idle run exec e = idle e
+  by_mode A end Sample job idle run exec e = idle e
+  by_mode A end Race job idle run exec e = idle e
+  by_mode A end Step job idle run exec e = idle e
+  by_mode A end Link job idle run exec e = idle e
+
+  by_job : (A : Type 0) (end : End) (o : Option Job) → (EndsIdle call end → A) → ((job : Job) → EndsRun job.file call end → A) → ((job : Job) → EndsExec job call end → A) → EndsBy o call end → A
+  by_job A end None idle run exec e = idle e
+  by_job A end (Some job) idle run exec e = by_mode A end job.mode job idle (run job) (exec job) e
+
+  ends_in : (end : End) (o : Option Job) (job : Job) → EndsBy o call end → built o ≡ Some job → EndsIn job.mode job call end
+  ends_in end o job e is = let P : Option Job → Type 0 = λ o. EndsBy o call end in subst P (job_was o job is) e
+
+  pub ends_run : (end : End) (o : Option Job) (job : Job) → EndsBy o call end → built o ≡ Some job → job.mode ≡ Run → EndsRun job.file call end
+  ends_run end o job e is mode = let P : Mode → Type 0 = λ mode. EndsIn mode job call end in subst P mode (ends_in end o job e is)
+
+  pub ends_exec : (end : End) (o : Option Job) (job : Job) → EndsBy o call end → built o ≡ Some job → job.mode ≡ Exec → EndsExec job call end
+  ends_exec end o job e is mode = let P : Mode → Type 0 = λ mode. EndsIn mode job call end in subst P mode (ends_in end o job e is)
+
+  -- ---- words
+
+  words_in : (end : End) (mode : Mode) (job : Job) → EndsIn mode job call end → end ≡ Words → is_built mode ≡ false
+  words_in end Run job e is = absurd (let P : End → Type 0 = EndsRun job.file call in subst P is e)
+  words_in end Exec job e is = absurd (let P : End → Type 0 = EndsExec job call in subst P is e)
+  words_in end Replay job e is = refl
+  words_in end Recorded job e is = refl
+  words_in end Build job e is = refl
+  words_in end Check job e is = refl
+  words_in end Sample job e is = refl
+  words_in end Race job e is = refl
+  words_in end Step job e is = refl
+  words_in end Link job e is = refl
+
+  pub words_cause : (end : End) (o : Option Job) → EndsBy o call end → end ≡ Words → built o ≡ None
+  words_cause end None e is = refl
+  words_cause end (Some job) e is = ap (λ (b : Bool). cond b (Some job) None) (words_in end job.mode job e is)
+
+  idle_in : (end : End) (mode : Mode) (job : Job) → EndsIn mode job call end → cond (is_built mode) (Some job) None ≡ None → (end ≡ Words) ⊎ (end ≡ NoMemory)
+  idle_in end Run job e is = absurd (cc)
+  idle_in end Exec job e is = absurd (cc)
+  idle_in end Replay job e is = e.0
+  idle_in end Recorded job e is = e.0
+  idle_in end Build job e is = e.0
+  idle_in end Check job e is = e.0
+  idle_in end Sample job e is = e.0
+  idle_in end Race job e is = e.0
+  idle_in end Step job e is = e.0
+  idle_in end Link job e is = e.0
+
+  pub words_end : (end : End) (o : Option Job) → EndsBy o call end → built o ≡ None → (end ≡ Words) ⊎ (end ≡ NoMemory)
+  words_end end None e is = e.0
+  words_end end (Some job) e is = idle_in end job.mode job e is
+
+  -- ---- faults outside
+
+  missing_run : (file : List ℕ) (end : End) → EndsRun file call end → LacksText call.told file → (end ≡ ReadFault) ⊎ (end ≡ NoMemory)
+  missing_run file (Ran over) e m = absurd (e.2.1.read.found m)
+  missing_run file WriteFault e m = absurd (e.1.1.read.found m)
+  missing_run file ReadFault e m = inl refl
+  missing_run file (Refused reason) e m = absurd (e.0.found m)
+  missing_run file NoMemory e m = inr refl
+  missing_run file Words e m = absurd e
+  missing_run file (BadImage fault) e m = absurd e
+
+  missing_exec : (job : Job) (end : End) → EndsExec job call end → LacksText call.told job.file → (end ≡ ReadFault) ⊎ (end ≡ NoMemory)
+  missing_exec job (Ran over) e m = absurd (e.1.read.found m)
+  missing_exec job WriteFault e m = absurd (e.1.read.found m)
+  missing_exec job ReadFault e m = inl refl
+  missing_exec job (BadImage fault) e m = absurd (e.0.found m)
+  missing_exec job NoMemory e m = inr refl
+  missing_exec job Words e m = absurd e
+  missing_exec job (Refused reason) e m = absurd e
+
+  missing_in : (end : End) (mode : Mode) (job : Job) → is_built mode ≡ true → EndsIn mode job call end → LacksText call.told job.file → (end ≡ ReadFault) ⊎ (end ≡ NoMemory)
+  missing_in end Run job is e m = missing_run job.file end e m
+  missing_in end Exec job is e m = missing_exec job end e m
+  missing_in end Replay job is e m = absurd (cc)
+  missing_in end Recorded job is e m = absurd (cc)
+  missing_in end Build job is e m = absurd (cc)
+  missing_in end Check job is e m = absurd (cc)
+  missing_in end Sample job is e m = absurd (cc)
+  missing_in end Race job is e m = absurd (cc)
+  missing_in end Step job is e m = absurd (cc)
+  missing_in end Link job is e m = absurd (cc)
+
+  pub missing_end : (end : End) (o : Option Job) (job : Job) → EndsBy o call end → built o ≡ Some job → LacksText call.told job.file → (end ≡ ReadFault) ⊎ (end ≡ NoMemory)
+  missing_end end o job e is m = missing_in end job.mode job (job_built o job is) (ends_in end o job e is) m
+
+  host_run : (file : List ℕ) (end : End) → EndsRun file call end → call.host_before < call.host_after → end ≡ ReadFault
+  host_run file (Ran over) e rose = let calm = e.2.1.read.calm in absurd (omega (arith, calm, rose))
+  host_run file WriteFault e rose = let calm = e.1.1.read.calm in absurd (omega (arith, calm, rose))
+  host_run file ReadFault e rose = refl
+  host_run file (Refused reason) e rose = let calm = e.0.calm in absurd (omega (arith, calm, rose))
+  host_run file NoMemory e rose = absurd (neither e.0 (λ u. let calm = u.calm in omega (arith, calm, rose)) (λ r. let calm = r.calm in omega (arith, calm, rose)))
+  host_run file Words e rose = absurd e
+  host_run file (BadImage fault) e rose = absurd e
+
+  host_exec : (job : Job) (end : End) → EndsExec job call end → call.host_before < call.host_after → end ≡ ReadFault
+  host_exec job (Ran over) e rose = let calm = e.1.read.calm in absurd (omega (arith, calm, rose))
+  host_exec job WriteFault e rose = let calm = e.1.read.calm in absurd (omega (arith, calm, rose))
+  host_exec job ReadFault e rose = refl
+  host_exec job (BadImage fault) e rose = let calm = e.0.calm in absurd (omega (arith, calm, rose))
+  host_exec job NoMemory e rose = let calm = e.0 in absurd (omega (arith, calm, rose))
+  host_exec job Words e rose = absurd e
+  host_exec job (Refused reason) e rose = absurd e
+
+  pub host_end : (end : End) (o : Option Job) → EndsBy o call end → call.host_before < call.host_after → end ≡ ReadFault
+  host_end end o e rose =
+      by_job (end ≡ ReadFault) end o (λ i. let calm = i.1.calm in absurd (omega (arith, calm, rose))) (λ job r. host_run job.file end r rose) (λ job x. host_exec job end x rose) e
+
+  out_run : (file : List ℕ) (end : End) → EndsRun file call end → call.out_before < call.out_after → end ≡ WriteFault
+  out_run file (Ran over) e rose = let calm = e.1 in absurd (omega (arith, calm, rose))
+  out_run file WriteFault e rose = refl
+  out_run file ReadFault e rose = let calm = e.1.calm in absurd (omega (arith, calm, rose))
+  out_run file (Refused reason) e rose = let calm = e.2.calm in absurd (omega (arith, calm, rose))
+  out_run file NoMemory e rose = let calm = e.1.calm in absurd (omega (arith, calm, rose))
+  out_run file Words e rose = absurd e
+  out_run file (BadImage fault) e rose = absurd e
+
+  out_exec : (job : Job) (end : End) → EndsExec job call end → call.out_before < call.out_after → end ≡ WriteFault
+  out_exec job (Ran over) e rose = let calm = e.1.ran.2 in absurd (omega (arith, calm, rose))
+  out_exec job WriteFault e rose = refl
+  out_exec job ReadFault e rose = let calm = e.1.calm in absurd (omega (arith, calm, rose))
+  out_exec job (BadImage fault) e rose = let calm = e.2.calm in absurd (omega (arith, calm, rose))
+  out_exec job NoMemory e rose = absurd (neither e.1 (λ n. let calm = n.calm in omega (arith, calm, rose)) (λ r. let calm = r.1.ran.1 in omega (arith, calm, rose)))
+  out_exec job Words e rose = absurd e
+  out_exec job (Refused reason) e rose = absurd e
+
+  pub out_end : (end : End) (o : Option Job) → EndsBy o call end → call.out_before < call.out_after → end ≡ WriteFault
+  out_end end o e rose =
+      by_job (end ≡ WriteFault) end o (λ i. let calm = i.2.calm in absurd (omega (arith, calm, rose))) (λ job r. out_run job.file end r rose) (λ job x. out_exec job end x rose) e
+
+  -- ---- texts and images
+
+  module _ (file text : List ℕ) (is : text_in call.told file ≡ Some text) where
+    refused_run : (end : End) → EndsRun file call end → HasNoForm text → (end ≡ Refused Other) ⊎ ((end ≡ ReadFault) ⊎ (end ≡ NoMemory))
+    refused_run (Ran over) e none_has = absurd (none_has e.2.0 (e.2.1.text text is))
+    refused_run WriteFault e none_has = absurd (none_has e.1.0 (e.1.1.text text is))
+    refused_run ReadFault e none_has = inr (inl refl)
+    refused_run (Refused Other) e none_has = inl refl
+    refused_run NoMemory e none_has = inr (inr refl)
+    refused_run Words e none_has = absurd e
+    refused_run (BadImage fault) e none_has = absurd e
+
+    complete_run : (form : Form) (end : End) → EndsRun file call end → IsForm text form → (Faulted call.host_before call.host_after → ⊥) → (Faulted call.out_before call.out_after → ⊥)
+        → (end ≡ Ran Done) ⊎ (end ≡ NoMemory)
+    complete_run form (Ran over) e f calm calm' = inl (ap Ran e.0)
+    complete_run form WriteFault e f calm calm' = absurd (calm' e.0)
+    complete_run form ReadFault e f calm calm' = absurd (neither e.0 calm (λ m. not_missing call.told text file is m))
+    complete_run form (Refused reason) e f calm calm' = absurd (e.1 text is form f)
+    complete_run form NoMemory e f calm calm' = inr refl
+    complete_run form Words e f calm calm' = absurd e
+    complete_run form (BadImage fault) e f calm calm' = absurd e
+
+  module _ (job : Job) (text : List ℕ) (is : text_in call.told job.file ≡ Some text) where
+    no_image : (end : End) (fault : ImageFault) → RanImage job call end → reading text ≡ Err fault → ⊥
+    no_image end fault e r = let again = image_again text e.0 (e.1.text text is) in cc
+
+    refused_exec : (fault : ImageFault) (end : End) → EndsExec job call end → reading text ≡ Err fault → (end ≡ BadImage fault) ⊎ ((end ≡ ReadFault) ⊎ (end ≡ NoMemory))
+    refused_exec fault (Ran over) e r = absurd (no_image (Ran over) fault e r)
+    refused_exec fault WriteFault e r = absurd (no_image WriteFault fault e r)
+    refused_exec fault ReadFault e r = inr (inl refl)
+    refused_exec fault (BadImage other) e r = let s = e.1 text is in let same : other ≡ fault = cc in inl (ap BadImage same)
+    refused_exec fault NoMemory e r = inr (inr refl)
+    refused_exec fault Words e r = absurd e
+    refused_exec fault (Refused reason) e r = absurd e
+
+    complete_exec : (image : Contents) (end : End) → EndsExec job call end → IsImage text image → (Faulted call.host_before call.host_after → ⊥) → (Faulted call.out_before call.out_after → ⊥)
+        → ((over : Over) × (end ≡ Ran over)) ⊎ (end ≡ NoMemory)
+    complete_exec image (Ran over) e f calm calm' = inl (over, refl)
+    complete_exec image WriteFault e f calm calm' = absurd (calm' e.1.ran.2)
+    complete_exec image ReadFault e f calm calm' = absurd (neither e.0 calm (λ m. not_missing call.told text job.file is m))
+    complete_exec image (BadImage fault) e f calm calm' = absurd (let s = e.1 text is in let again = image_again text image f in cc)
+    complete_exec image NoMemory e f calm calm' = inr refl
+    complete_exec image Words e f calm calm' = absurd e
+    complete_exec image (Refused reason) e f calm calm' = absurd e
+
+  pub refused_end : (end : End) (o : Option Job) (job : Job) (text : List ℕ) → EndsBy o call end → built o ≡ Some job → job.mode ≡ Run → text_in call.told job.file ≡ Some text → HasNoForm text
+      → (end ≡ Refused Other) ⊎ ((end ≡ ReadFault) ⊎ (end ≡ NoMemory))
+  refused_end end o job text e b mode is none_has = refused_run job.file text is end (ends_run end o job e b mode) none_has
+
+  pub complete_end : (end : End) (o : Option Job) (job : Job) (text : List ℕ) (form : Form) → EndsBy o call end → built o ≡ Some job → job.mode ≡ Run → text_in call.told job.file ≡ Some text → IsForm text form
+      → (Faulted call.host_before call.host_after → ⊥) → (Faulted call.out_before call.out_after → ⊥) → (end ≡ Ran Done) ⊎ (end ≡ NoMemory)
+  complete_end end o job text form e b mode is f calm calm' = complete_run job.file text is form end (ends_run end o job e b mode) f calm calm'
+
+  pub no_image_end : (end : End) (o : Option Job) (job : Job) (text : List ℕ) (fault : ImageFault) → EndsBy o call end → built o ≡ Some job → job.mode ≡ Exec → text_in call.told job.file ≡ Some text → reading text ≡ Err fault
+      → (end ≡ BadImage fault) ⊎ ((end ≡ ReadFault) ⊎ (end ≡ NoMemory))
+  no_image_end end o job text fault e b mode is r = refused_exec job text is fault end (ends_exec end o job e b mode) r
+
+  pub image_end : (end : End) (o : Option Job) (job : Job) (text : List ℕ) (image : Contents) → EndsBy o call end → built o ≡ Some job → job.mode ≡ Exec → text_in call.told job.file ≡ Some text → IsImage text image
+      → (Faulted call.host_before call.host_after → ⊥) → (Faulted call.out_before call.out_after → ⊥) → ((over : Over) × (end ≡ Ran over)) ⊎ (end ≡ NoMemory)
+  image_end end o job text image e b mode is f calm calm' = complete_exec job text is image end (ends_exec end o job e b mode) f calm calm'
+
+  -- ---- ways to end
+
+  pub idle_end : (end : End) (o : Option Job) → EndsIdle call end → built o ≡ None → EndsBy o call end
+  idle_end end None i is = i
+  idle_end end (Some job) i is = on job.mode is
+    where
+      on : (mode : Mode) → cond (is_built mode) (Some job) None ≡ None → EndsIn mode job call end
+      on Run is = absurd (cc)
+      on Exec is = absurd (cc)
+      on Replay is = i
+      on Recorded is = i
+      on Build is = i
+      on Check is = i
+      on Sample is = i
+      on Race is = i
+      on Step is = i
+      on Link is = i
+
+  -- want of memory before anything was read
+  pub memory_end : (o : Option Job) → EndsIdle call NoMemory → EndsBy o call NoMemory
+  memory_end None i = i
+  memory_end (Some job) i = on job.mode
+    where
+      on : (mode : Mode) → EndsIn mode job call NoMemory
+      on Run = (inl i.1, i.2)
+      on Exec = (i.1.calm, inl i.2)
+      on Replay = i
+      on Recorded = i
+      on Build = i
+      on Check = i
+      on Sample = i
+      on Race = i
+      on Step = i
+      on Link = i
+
+  pub mode_end : (end : End) (o : Option Job) (job : Job) → o ≡ Some job → EndsIn job.mode job call end → EndsBy o call end
+  mode_end end o job is e = let P : Option Job → Type 0 = λ o. EndsBy o call end in subst P (sym is) e
+
+  -- the modes that are yet to come
+  pub rest_in : (end : End) (mode : Mode) (job : Job) → (mode ≡ Run → ⊥) → (mode ≡ Exec → ⊥) → EndsIdle call end → EndsIn mode job call end
+  rest_in end Run job a b i = absurd (a refl)
+  rest_in end Exec job a b i = absurd (b refl)
+  rest_in end Replay job a b i = i
+  rest_in end Recorded job a b i = i
+  rest_in end Build job a b i = i
+  rest_in end Check job a b i = i
+  rest_in end Sample job a b i = i
+  rest_in end Race job a b i = i
+  rest_in end Step job a b i = i
+  rest_in end Link job a b i = i
+
+  pub run_end : (end : End) (o : Option Job) (job : Job) (file : List ℕ) → o ≡ Some job → job.mode ≡ Run → file ≡ job.file → EndsRun file call end → EndsBy o call end
+  run_end end o job file is mode named e =
+      let F : List ℕ → Type 0 = λ file. EndsRun file call end in
+      let M : Mode → Type 0 = λ mode. EndsIn mode job call end in
+      mode_end end o job is (subst M (sym mode) (subst F named e))

@@ -1,4 +1,9 @@
+pub mod Between
 pub mod Causes
+pub mod Execs
+pub mod Jobs
+pub mod Lines
+pub mod Loading
 pub mod Stages
 pub mod Told
 pub mod Whole

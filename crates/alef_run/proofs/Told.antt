@@ -49,7 +49,7 @@ drop_none zero = refl
 drop_none (suc n) = refl
 
 -- a longer front is a front, and a front of the rest
-take-add : {X : Type 0} (m n : ℕ) (xs : List X) → take (m + n) xs ≡ take m xs ++ take n (drop m xs)
+pub take-add : {X : Type 0} (m n : ℕ) (xs : List X) → take (m + n) xs ≡ take m xs ++ take n (drop m xs)
 take-add zero n xs = ap (λ (k : ℕ). take k xs) (omega arith)
 take-add (suc m) n [] = take_none (suc m + n) ∙ sym (take_none n)
 take-add {X = X} (suc m) n (x ∷ xs) =

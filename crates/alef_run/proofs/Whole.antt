@@ -3,7 +3,7 @@ use Rattle.std.proofs.Common.{◌≡◌, ℕ, ◌≤◌, List, length, take, sym
 use Rattle.std.proofs.lemmas.List.{length-take, take_all}
 use Rattle.al_first.specs.declared.form.Form.{Form}
 use Rattle.al_first.specs.Form.{IsForm}
-use Rattle.alef_run.specs.Call.{HasNoForm}
+use Rattle.alef_run.specs.RunMode.{HasNoForm}
 
 whole : (text : List ℕ) → length (take 901 text) ≤ 900 → take 901 text ≡ text
 whole text h = let e = length-take 901 text in take_all 901 text (omega (arith, e))

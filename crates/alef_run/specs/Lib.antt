@@ -1,6 +1,11 @@
 pub mod Build
 pub mod Call
-pub mod Ends
+pub mod ExecMode
+pub mod Line
+pub mod Load
+pub mod Modes
 pub mod Outside
-pub mod Words
+pub mod Rounds
+pub mod RunMode
+pub mod Status
 pub mod Write

@@ -3,7 +3,7 @@
 ghost use Rattle.std.specs.Prelude.{◌≡◌, ◌≢◌, ◌⊎◌, ◌+◌, ℕ, List, [], length, replicate, IfOk, IfErr};
 ghost use Rattle.al_first.specs.declared.form.Form.{Form};
 ghost use Rattle.al_first.specs.Form.{IsForm};
-ghost use Rattle.alef_run.specs.Call.{HasNoForm, first_entry};
+ghost use Rattle.alef_run.specs.RunMode.{HasNoForm, first_entry};
 ghost use Rattle.alef_run.specs.Build.{IsRunOf};
 
 use crate::report::{End, Refused};

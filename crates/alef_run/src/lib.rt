@@ -2,14 +2,17 @@
 #![tactic(auto)]
 
 mod build;
+mod call;
+mod exec;
+mod first_form;
+mod line;
 mod load;
 mod outside;
 mod report;
-mod run;
-mod words;
+mod rounds;
 
+pub use call::alef;
 pub use report::{End, Refused, Report};
-pub use run::alef;
 
 #[cfg(test)]
 mod tests;

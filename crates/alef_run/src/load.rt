@@ -1,12 +1,25 @@
-//! From the words to the text.
+//! From a name to the text or the image under it.
 
-ghost use Rattle.std.specs.Prelude.{◌≡◌, ◌≢◌, ◌≤◌, ◌⊎◌, ℕ, List, Some, None, length, take, drop, OnOk, OnErr, IfOk};
-ghost use Rattle.al_host.specs.Outside.{Faulted};
-ghost use Rattle.alef_run.specs.Call.{text_in, LacksText, LeavesRest};
+ghost use Rattle.std.specs.Prelude.{◌≡◌, ◌≢◌, ◌≤◌, ◌⊎◌, ℕ, List, Some, None, length, take, drop, OnOk, OnErr, IfOk, IfErr};
+ghost use Rattle.al_host.specs.Outside.{Faulted, WhereTold};
+ghost use Rattle.rv_image.specs.Spelling.{IsImage};
+ghost use Rattle.rv_image.specs.Front.{enough_of};
+ghost use Rattle.alef_run.specs.Call.{IsRead, text_in, LacksText, LeavesRest};
+ghost use Rattle.alef_run.specs.Load.{ReadsOn, StopsReading, LacksImage};
 
 use crate::outside::read_front;
+use crate::report::End;
 use al_base::Failed;
 use al_host::Host;
+use rv_image::{ImageStop, enough, read};
+use rv_isa::image::Image;
+use std::alloc::Global;
+
+/// So many bytes of an image say how many more there are to be.
+const HEADER_BYTES: usize = 36;
+
+/// An image is read in pieces of so many bytes.
+const PIECE: usize = 4096;
 
 /// Reads the text of that name to its end, or to the end of a buffer, and says how much that is.
 pub(crate) fn read_file<H: Host>(host: &mut H, name: &str, buf: &mut [u8]) -> Result<usize, Failed>
@@ -21,4 +34,51 @@ pub(crate) fn read_file<H: Host>(host: &mut H, name: &str, buf: &mut [u8]) -> Re
 {
     host.find(name)?;
     read_front(host, buf)
+}
+
+/// Reads on, until there are `most` bytes or nothing is left.
+fn read_on<H: Host>(host: &mut H, bytes: &mut Vec<u8>, most: usize) -> Result<(), End>
+    requires { length bytes.old.items ≤ most }
+    ensures read { OnOk result (WhereTold (ReadsOn most bytes.old.items bytes.new.items) (H.content host.old) (H.content host.new)) }
+    ensures within { OnOk result (length bytes.new.items ≤ most) }
+    ensures calm { OnOk result (H.faults host.new ≡ H.faults host.old) }
+    ensures stop { IfErr result (λ end. StopsReading end (H.faults host.old) (H.faults host.new)) }
+{
+    let mut piece = [0; PIECE];
+    while bytes.len() < most {
+        let room = piece.len().min(most - bytes.len());
+        let len = match host.read(&mut piece[..room]) {
+            Ok(len) => len,
+            Err(_) => return Err(End::ReadFault),
+        };
+        if len == 0 {
+            return Ok(());
+        }
+        match bytes.extend_from_slice(&piece[..len]) {
+            Ok(()) => (),
+            Err(_) => return Err(End::NoMemory),
+        }
+    }
+    Ok(())
+}
+
+/// Reads the image of that name: as many bytes as tell which image it is.
+pub(crate) fn load_image<H: Host>(alloc: Global, host: &mut H, name: &str) -> Result<Image, End>
+    ensures read { OnOk result (IsRead name.now enough_of (H.content host.old) (H.content host.new) (H.faults host.old) (H.faults host.new)) }
+    ensures image { IfOk result (λ image. (text : List ℕ) → text_in (H.content host.old) name.now ≡ Some text → IsImage text image) }
+    ensures none { IfErr result (λ end. LacksImage name.now end (H.content host.old) (H.content host.new) (H.faults host.old) (H.faults host.new)) }
+{
+    match host.find(name) {
+        Ok(()) => (),
+        Err(_) => return Err(End::ReadFault),
+    }
+    let mut bytes = Vec::new(alloc);
+    read_on(host, &mut bytes, HEADER_BYTES)?;
+    let most = enough(bytes.as_slice());
+    read_on(host, &mut bytes, most)?;
+    match read(alloc, bytes.as_slice()) {
+        Ok(image) => Ok(image),
+        Err(ImageStop::Fault(fault)) => Err(End::BadImage(fault)),
+        Err(ImageStop::NoMemory) => Err(End::NoMemory),
+    }
 }

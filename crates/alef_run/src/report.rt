@@ -1,9 +1,14 @@
-ghost use Rattle.std.specs.Prelude.{◌≡◌};
-ghost use Rattle.alef_run.specs.Ends.{stopped, status_of, line_of_end};
+ghost use Rattle.std.specs.Prelude.{◌≡◌, ◌≤◌, [], None, take};
+ghost use Rattle.alef_run.specs.Status.{stopped, status_of, image_line, line_of_end};
 
+use crate::line::trap_line;
 use al_base::{Over, over_line};
 use al_event::Entry;
 use al_items::Items;
+use rv_image::ImageFault;
+use rv_isa::image::Image;
+use std::alloc::Global;
+use std::sync::Arc;
 
 /// Why a text was refused.
 #[derive(Clone, Copy, Debug, PartialEq, Eq)]
@@ -19,10 +24,12 @@ pub enum End {
     Ran(Over),
     /// The words are no job.
     Words,
-    /// The host did not give the text.
+    /// The host did not give the text or the image.
     ReadFault,
     /// The text was refused.
     Refused(Refused),
+    /// The bytes are no image.
+    BadImage(ImageFault),
     /// The output did not go out whole.
     WriteFault,
     /// There was not enough memory.
@@ -39,8 +46,31 @@ pub struct Report {
     pub schedule: Items<Entry>,
     /// How many code words were fetched up to the last entry.
     pub work: u128,
-    /// The code words that were made, empty where none were.
+    /// The image that ran, if one did.
+    pub image: Option<Arc<Image>>,
+    /// The code words that were made of a text of the first form, empty where none were.
     pub code: Items<u32>,
+}
+
+impl Report {
+    /// A call that ends before anything was made.
+    pub(crate) fn nothing(alloc: Global, end: End) -> Report
+        ensures end { result.end ≡ end }
+        ensures schedule { result.schedule ≡ [] }
+        ensures work { result.work ≡ 0 }
+        ensures image { result.image ≡ None }
+        ensures code { result.code ≡ [] }
+        ensures status { result.status ≡ status_of end }
+    {
+        Report {
+            status: status_of(&end),
+            end,
+            schedule: Items::new(alloc),
+            work: 0,
+            image: None,
+            code: Items::new(alloc),
+        }
+    }
 }
 
 /// The exit status of a program that stopped itself.
@@ -66,18 +96,43 @@ pub(crate) fn status_of(end: &End) -> u8
         End::Words => 2,
         End::ReadFault => 3,
         End::Refused(_) => 1,
+        End::BadImage(_) => 9,
         End::WriteFault => 4,
         End::NoMemory => 8,
     }
 }
 
-/// The line that the log gets for an end, if it gets one. A buffer lends it room.
-pub(crate) fn line_of<'a>(end: &End, buf: &'a mut [u8; 80]) -> &'a [u8]
-    ensures { result.now ≡ line_of_end end.now }
+/// Writes the line that the log gets for the end of a run to the front of a buffer, and gives its length.
+fn run_line(over: &Over, line: u32, buf: &mut [u8; 80]) -> usize
+    ensures text { take result buf.new ≡ line_of_end line (End.Ran over.now) }
+    ensures within { result ≤ 80 }
+{
+    match over {
+        Over::Trapped { trap, proc, at } => trap_line(buf, *trap, *proc, *at, line),
+        _ => over_line(over, buf) as usize,
+    }
+}
+
+fn image_line(fault: ImageFault) -> &'static [u8]
+    ensures { result.now ≡ image_line fault }
+{
+    match fault {
+        ImageFault::Short => b"alef: image Short\n",
+        ImageFault::Magic => b"alef: image Magic\n",
+        ImageFault::Version => b"alef: image Version\n",
+        ImageFault::Count => b"alef: image Count\n",
+        ImageFault::Extra => b"alef: image Extra\n",
+    }
+}
+
+/// The line that the log gets for an end, if it gets one; that of a trap names `line` of the text where it is not 0. A buffer
+/// lends it room.
+pub(crate) fn line_of<'a>(end: &End, line: u32, buf: &'a mut [u8; 80]) -> &'a [u8]
+    ensures { result.now ≡ line_of_end line end.now }
 {
     match end {
         End::Ran(over) => {
-            let len = over_line(over, buf) as usize;
+            let len = run_line(over, line, buf);
             &buf[..len]
         }
         End::Words => {
@@ -85,6 +140,7 @@ pub(crate) fn line_of<'a>(end: &End, buf: &'a mut [u8; 80]) -> &'a [u8]
         }
         End::ReadFault => b"alef: cannot read\n",
         End::Refused(Refused::Form) => b"alef: another form\n",
+        End::BadImage(fault) => image_line(*fault),
         End::WriteFault => b"alef: cannot write\n",
         End::NoMemory => b"alef: out of memory\n",
     }

@@ -1,13 +1,52 @@
-use crate::{End, Refused, alef};
-use al_base::Over;
-use al_host::{MemHost, MemSink};
-use std::alloc::Global;
-use std::test::Fail;
+ghost use Rattle.std.specs.Prelude.{◌≤◌};
 
-/// A case: the words, the text under `a`, and what is to come of it.
-struct Case<'a> {
+mod images;
+
+use crate::{End, Refused, alef};
+use al_base::{Over, Trap};
+use al_host::{MemHost, MemSink};
+use images::*;
+use rv_image::ImageFault;
+use std::alloc::Global;
+use std::process::Abort;
+use std::sync::Wait;
+use std::test::Fail;
+use std::thread::Threads;
+
+const USAGE: &str =
+    "alef: usage: alef MODE [FILE [SCHEDULE]] [--workers N] [--entries N] [--region N] [--number N]\n";
+
+/// A host that has these bytes under `a`, and whose calls of these numbers fail.
+fn host_of(alloc: Global, bytes: &[u8], fail: &[u64]) -> Result<MemHost, Fail> {
+    let mut files = Vec::new(alloc);
+    files.push((
+        String::from_str(alloc, "a")?,
+        Vec::from_slice(alloc, bytes)?,
+    ))?;
+    Ok(MemHost::new(files, Vec::from_slice(alloc, fail)?))
+}
+
+/// A sink that takes so many bytes at a time, and whose writes of these numbers fail.
+fn sink(alloc: Global, most: u32, fail: &[u64]) -> Result<MemSink, Fail>
+    requires { 1 ≤ most }
+{
+    let fail = Vec::from_slice(alloc, fail)?;
+    Ok(MemSink::new(alloc, 1 << 20, most, fail)?)
+}
+
+/// The bytes of an image, from its numbers.
+fn bytes_of(alloc: Global, numbers: &[u32]) -> Result<Vec<u8>, Fail> {
+    let mut bytes = Vec::new(alloc);
+    for number in numbers {
+        bytes.extend_from_slice(&number.to_le_bytes())?;
+    }
+    Ok(bytes)
+}
+
+/// A call: its words, and what is to come of it.
+#[derive(Clone, Copy)]
+struct Want<'a> {
     words: &'a [&'a str],
-    text: &'a str,
     end: End,
     status: u8,
     entries: usize,
@@ -15,113 +54,340 @@ struct Case<'a> {
     log: &'a str,
 }
 
-fn host_of(alloc: Global, text: &str) -> Result<MemHost, Fail> {
-    let mut files = Vec::new(alloc);
-    files.push((
-        String::from_str(alloc, "a")?,
-        Vec::from_slice(alloc, text.as_bytes())?,
-    ))?;
-    Ok(MemHost::new(files, Vec::new(alloc)))
+/// Makes a call where these bytes stand under `a`, and compares.
+fn compare<R: Threads + Wait + Sync + Abort>(
+    rt: &R,
+    alloc: Global,
+    bytes: &[u8],
+    want: &Want<'_>,
+) -> Result<(), Fail> {
+    let mut host = host_of(alloc, bytes, &[])?;
+    let mut out = sink(alloc, 1 << 20, &[])?;
+    let mut log = sink(alloc, 1 << 20, &[])?;
+    let report = alef(rt, alloc, want.words, &mut host, &mut out, &mut log);
+    assert_eq!(rt; report.end, want.end);
+    assert_eq!(rt; report.status, want.status);
+    assert_eq!(rt; report.schedule.len(), want.entries);
+    assert_eq!(rt; out.got(), want.out.as_bytes());
+    assert_eq!(rt; log.got(), want.log.as_bytes());
+    Ok(())
 }
 
-fn sink(alloc: Global) -> Result<MemSink, Fail> {
-    Ok(MemSink::new(alloc, 1 << 20, 1 << 20, Vec::new(alloc))?)
-}
+const NO_JOB: Want<'static> = Want {
+    words: &[],
+    end: End::Words,
+    status: 2,
+    entries: 0,
+    out: "",
+    log: USAGE,
+};
 
-const CASES: [Case<'static>; 7] = [
-    Case {
-        words: &["run", "a"],
-        text: "void main(){int a; a = 40 + 2; print(\"%d\\n\", a);}\n",
-        end: End::Ran(Over::Done),
-        status: 0,
-        entries: 2,
-        out: "42\n",
-        log: "",
-    },
-    Case {
-        words: &["run", "a"],
-        text: "void main(){}",
-        end: End::Ran(Over::Done),
-        status: 0,
-        entries: 1,
-        out: "",
-        log: "",
-    },
-    Case {
-        words: &["run", "a"],
-        text: "void main(){int a;a=2147483647;print(\"%d\\n\",a+1);}",
-        end: End::Ran(Over::Done),
-        status: 0,
-        entries: 2,
-        out: "-2147483648\n",
-        log: "",
-    },
-    Case {
-        words: &["run", "a"],
-        text: "void main(){int a;a=-1;}",
-        end: End::Refused(Refused::Form),
-        status: 1,
-        entries: 0,
-        out: "",
-        log: "alef: another form\n",
-    },
-    Case {
-        words: &["run"],
-        text: "void main(){}",
-        end: End::Words,
-        status: 2,
-        entries: 0,
-        out: "",
-        log: "alef: usage: alef MODE [FILE [SCHEDULE]] [--workers N] [--entries N] [--region N] [--number N]\n",
-    },
-    Case {
-        words: &["run", "b"],
-        text: "void main(){}",
-        end: End::ReadFault,
-        status: 3,
-        entries: 0,
-        out: "",
-        log: "alef: cannot read\n",
-    },
-    Case {
-        words: &["walk", "a"],
-        text: "void main(){}",
-        end: End::Words,
-        status: 2,
-        entries: 0,
-        out: "",
-        log: "alef: usage: alef MODE [FILE [SCHEDULE]] [--workers N] [--entries N] [--region N] [--number N]\n",
-    },
+/// Texts of the first form, one that is none, and words.
+const TEXTS: [(&str, Want<'static>); 9] = [
+    (
+        "void main(){int a; a = 40 + 2; print(\"%d\\n\", a);}\n",
+        Want {
+            words: &["run", "a"],
+            end: End::Ran(Over::Done),
+            status: 0,
+            entries: 2,
+            out: "42\n",
+            log: "",
+        },
+    ),
+    (
+        "void main(){}",
+        Want {
+            words: &["run", "a", "--entries", "1"],
+            end: End::Ran(Over::Done),
+            status: 0,
+            entries: 1,
+            out: "",
+            log: "",
+        },
+    ),
+    (
+        "void main(){int a;a=2147483647;print(\"%d\\n\",a+1);}",
+        Want {
+            words: &["run", "a"],
+            end: End::Ran(Over::Done),
+            status: 0,
+            entries: 2,
+            out: "-2147483648\n",
+            log: "",
+        },
+    ),
+    (
+        "void main(){int a;a=-1;}",
+        Want {
+            words: &["run", "a"],
+            end: End::Refused(Refused::Form),
+            status: 1,
+            entries: 0,
+            out: "",
+            log: "alef: another form\n",
+        },
+    ),
+    (
+        "void main(){}",
+        Want {
+            words: &["run", "b"],
+            end: End::ReadFault,
+            status: 3,
+            entries: 0,
+            out: "",
+            log: "alef: cannot read\n",
+        },
+    ),
+    (
+        "void main(){}",
+        Want {
+            words: &["run"],
+            ..NO_JOB
+        },
+    ),
+    (
+        "void main(){}",
+        Want {
+            words: &["run", "a", "--workers", "0"],
+            ..NO_JOB
+        },
+    ),
+    (
+        "void main(){}",
+        Want {
+            words: &["walk", "a"],
+            ..NO_JOB
+        },
+    ),
+    // a mode that is yet to come
+    (
+        "void main(){}",
+        Want {
+            words: &["check", "a"],
+            ..NO_JOB
+        },
+    ),
 ];
 
 #[test]
 fn texts_run_or_are_refused(rt: HostRuntime) -> Result<(), Fail> {
-    let alloc = rt.alloc();
-    for case in &CASES {
-        let mut host = host_of(alloc, case.text)?;
-        let mut out = sink(alloc)?;
-        let mut log = sink(alloc)?;
-        let report = alef(&rt, alloc, case.words, &mut host, &mut out, &mut log);
-        assert_eq!(rt; report.end, case.end);
-        assert_eq!(rt; report.status, case.status);
-        assert_eq!(rt; report.schedule.len(), case.entries);
-        assert_eq!(rt; out.got(), case.out.as_bytes());
-        assert_eq!(rt; log.got(), case.log.as_bytes());
+    for (text, want) in &TEXTS {
+        compare(&rt, rt.alloc(), text.as_bytes(), want)?;
     }
     Ok(())
 }
 
+/// Images that run, by their numbers.
+const RUNS: [(&[u32], Want<'static>); 8] = [
+    (
+        &MINUS_NINE,
+        Want {
+            words: &["exec", "a"],
+            end: End::Ran(Over::Done),
+            status: 0,
+            entries: 2,
+            out: "-9\n",
+            log: "",
+        },
+    ),
+    (
+        &ENDS,
+        Want {
+            words: &["exec", "a", "--region=1"],
+            end: End::Ran(Over::Done),
+            status: 0,
+            entries: 1,
+            out: "",
+            log: "",
+        },
+    ),
+    (
+        &TRAPS,
+        Want {
+            words: &["exec", "a"],
+            end: End::Ran(Over::Trapped {
+                trap: Trap::Divide,
+                proc: 0,
+                at: 0,
+            }),
+            status: 5,
+            entries: 1,
+            out: "",
+            log: "alef: trap Divide in proc 0 at entry 0, line 4\n",
+        },
+    ),
+    (
+        &BLOCKS,
+        Want {
+            words: &["exec", "a"],
+            end: End::Ran(Over::Blocked),
+            status: 6,
+            entries: 2,
+            out: "",
+            log: "alef: blocked\n",
+        },
+    ),
+    (
+        &PAUSES,
+        Want {
+            words: &["exec", "a", "--entries", "3"],
+            end: End::Ran(Over::Spent),
+            status: 7,
+            entries: 3,
+            out: "",
+            log: "alef: entries spent\n",
+        },
+    ),
+    (
+        &STOPS,
+        Want {
+            words: &["exec", "a"],
+            end: End::Ran(Over::Stopped(3)),
+            status: 131,
+            entries: 1,
+            out: "",
+            log: "",
+        },
+    ),
+    (
+        &WAITS,
+        Want {
+            words: &["exec", "a"],
+            end: End::Ran(Over::Done),
+            status: 0,
+            entries: 69,
+            out: "!",
+            log: "",
+        },
+    ),
+    (
+        &ENDS,
+        Want {
+            words: &["exec", "b"],
+            end: End::ReadFault,
+            status: 3,
+            entries: 0,
+            out: "",
+            log: "alef: cannot read\n",
+        },
+    ),
+];
+
 #[test]
-fn a_write_that_fails_keeps_what_went_out(rt: HostRuntime) -> Result<(), Fail> {
+fn images_run(rt: HostRuntime) -> Result<(), Fail> {
     let alloc = rt.alloc();
-    let fail = Vec::from_slice(alloc, &[3])?;
-    let mut host = host_of(alloc, "void main(){print(\"0123456789\");}")?;
-    let mut out = MemSink::new(alloc, 1 << 20, 3, fail)?;
-    let mut log = sink(alloc)?;
-    let report = alef(&rt, alloc, &["run", "a"], &mut host, &mut out, &mut log);
-    assert_eq!(rt; report.end, End::WriteFault);
+    for (numbers, want) in &RUNS {
+        let bytes = bytes_of(alloc, numbers)?;
+        compare(&rt, alloc, &bytes, want)?;
+    }
+    Ok(())
+}
+
+/// Images with a first word that is none, and one that jumps to itself.
+#[test]
+fn hostile_images_trap(rt: HostRuntime) -> Result<(), Fail> {
+    let alloc = rt.alloc();
+    for (numbers, work) in [(&NO_WORD, 1), (&FOREVER, 134_217_729)] {
+        let bytes = bytes_of(alloc, numbers)?;
+        let mut host = host_of(alloc, &bytes, &[])?;
+        let mut out = sink(alloc, 1 << 20, &[])?;
+        let mut log = sink(alloc, 1 << 20, &[])?;
+        let report = alef(&rt, alloc, &["exec", "a"], &mut host, &mut out, &mut log);
+        assert_eq!(rt; report.status, 5);
+        assert_eq!(rt; report.work, work);
+        assert_eq!(rt;
+            log.got(),
+            b"alef: trap Illegal in proc 0 at entry 0\n".as_slice()
+        );
+    }
+    Ok(())
+}
+
+fn is_no_image<R: Threads + Wait + Sync + Abort>(
+    rt: &R,
+    alloc: Global,
+    bytes: &[u8],
+    fault: ImageFault,
+    log: &str,
+) -> Result<(), Fail> {
+    let want = Want {
+        words: &["exec", "a"],
+        end: End::BadImage(fault),
+        status: 9,
+        entries: 0,
+        out: "",
+        log,
+    };
+    compare(rt, alloc, bytes, &want)
+}
+
+/// Bytes that are no image, among them each first part of one.
+#[test]
+fn bytes_that_are_no_image(rt: HostRuntime) -> Result<(), Fail> {
+    let alloc = rt.alloc();
+    let image = bytes_of(alloc, &MINUS_NINE)?;
+    for len in 0..image.len() {
+        is_no_image(
+            &rt,
+            alloc,
+            &image[..len],
+            ImageFault::Short,
+            "alef: image Short\n",
+        )?;
+    }
+    let mut longer = bytes_of(alloc, &MINUS_NINE)?;
+    longer.push(0)?;
+    is_no_image(
+        &rt,
+        alloc,
+        &longer,
+        ImageFault::Extra,
+        "alef: image Extra\n",
+    )?;
+    let mut numbers = MINUS_NINE;
+    numbers[0] = 0x4645_4c00;
+    let other = bytes_of(alloc, &numbers)?;
+    is_no_image(&rt, alloc, &other, ImageFault::Magic, "alef: image Magic\n")
+}
+
+/// Each of the first calls of a host fails, and each write of a sink.
+#[test]
+fn places_that_fail(rt: HostRuntime) -> Result<(), Fail> {
+    let alloc = rt.alloc();
+    let image = bytes_of(alloc, &SIX)?;
+    for call in 1u64..4 {
+        let mut host = host_of(alloc, &image, &[call])?;
+        let mut out = sink(alloc, 3, &[])?;
+        let mut log = sink(alloc, 1 << 20, &[])?;
+        let report = alef(&rt, alloc, &["exec", "a"], &mut host, &mut out, &mut log);
+        assert_eq!(rt; report.status, 3);
+        assert_eq!(rt; out.got().len(), 0);
+    }
+    for call in 1usize..7 {
+        let mut host = host_of(alloc, &image, &[])?;
+        let mut out = sink(alloc, 3, &[call as u64])?;
+        let mut log = sink(alloc, 1 << 20, &[])?;
+        let report = alef(&rt, alloc, &["exec", "a"], &mut host, &mut out, &mut log);
+        assert_eq!(rt; report.end, End::WriteFault);
+        assert_eq!(rt; report.schedule.len(), 7);
+        assert_eq!(rt; out.got(), &b"abcabcabcabcabcabc"[..3 * (call - 1)]);
+        assert_eq!(rt; log.got(), b"alef: cannot write\n".as_slice());
+    }
+    Ok(())
+}
+
+/// The output of a round goes out before the next round.
+#[test]
+fn rounds_are_written_one_by_one(rt: HostRuntime) -> Result<(), Fail> {
+    let alloc = rt.alloc();
+    let image = bytes_of(alloc, &MANY)?;
+    let mut host = host_of(alloc, &image, &[])?;
+    let mut out = sink(alloc, 65536, &[2])?;
+    let mut log = sink(alloc, 1 << 20, &[])?;
+    let report = alef(&rt, alloc, &["exec", "a"], &mut host, &mut out, &mut log);
     assert_eq!(rt; report.status, 4);
-    assert_eq!(rt; out.got(), b"012345".as_slice());
-    assert_eq!(rt; log.got(), b"alef: cannot write\n".as_slice());
+    assert_eq!(rt; out.got().len(), 65536);
+    assert_eq!(rt; report.schedule.len(), 70001);
     Ok(())
 }

@@ -1,6 +1,6 @@
 use Rattle.std.proofs.Common.{◌≡◌, ◌+◌}
 use Rattle.std.specs.Prelude.{replicate}
-use Rattle.alef_run.specs.Call.{first_entry}
+use Rattle.alef_run.specs.RunMode.{first_entry}
 use Rattle.alef_run.proofs.build.schedule.Given as goal
 
 abbrev pub invariant-loop : goal.invariant-loop

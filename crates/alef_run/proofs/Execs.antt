@@ -1,0 +1,76 @@
+-- From what the stages of `exec` say to why it ends as it does.
+use Rattle.std.proofs.Common.{◌≡◌, ℕ, List, [], Option, Some, None, refl, sym, ap, ap₂, ◌∙◌, subst, inl, inr}
+use Rattle.al_event.specs.declared.entry.Entry.{Entry}
+use Rattle.al_words.specs.declared.job.Job.{Job}
+use Rattle.rv_isa.specs.declared.image.Contents.{Contents}
+use Rattle.rv_image.specs.Spelling.{IsImage}
+use Rattle.rv_image.specs.Front.{enough_of}
+use Rattle.al_core.specs.History.{History, opening, line_of, work_of}
+use Rattle.alef_run.specs.Call.{Call, WasRead, DidNothing, text_in}
+use Rattle.alef_run.specs.Load.{LacksImage}
+use Rattle.alef_run.specs.Rounds.{history_along, IsLegal, RanTo}
+use Rattle.alef_run.specs.ExecMode.{DidExec, EndsExec, comes_to}
+use Rattle.alef_run.specs.Modes.{line_by}
+use Rattle.alef_run.specs.declared.report.End.{End}
+use Rattle.alef_run.specs.declared.report.End.TheVariants.{Ran, Words, ReadFault, Refused, BadImage, WriteFault, NoMemory}
+use Rattle.alef_run.proofs.Between.{line_along, work_along}
+
+pub lacks_image : (job : Job) (call : Call) (end : End) → LacksImage job.file end call.told call.told_after call.host_before call.host_after → DidNothing call → EndsExec job call end
+lacks_image job call ReadFault l nothing = (l, nothing)
+lacks_image job call (BadImage fault) l nothing = (l.0, l.1, nothing)
+lacks_image job call NoMemory l nothing = (l, inl nothing)
+lacks_image job call Words l nothing = absurd l
+lacks_image job call (Refused reason) l nothing = absurd l
+lacks_image job call WriteFault l nothing = absurd l
+lacks_image job call (Ran over) l nothing = absurd l
+
+module _ (job : Job) (image : Contents) (call : Call) (end : End) (h : History) (schedule : call.schedule ≡ h.entries) (image_is : h.image ≡ image) (region_is : h.region ≡ job.region) where
+  pub did_exec : WasRead job.file enough_of call → ((text : List ℕ) → text_in call.told job.file ≡ Some text → IsImage text image) → call.image ≡ Some image → call.code ≡ []
+      → IsLegal (history_along image job.region job.entries h.entries) → call.work ≡ work_of h
+      → RanTo (history_along image job.region job.entries h.entries) end call.got_before call.got_after call.out_before call.out_after → DidExec job image call end
+  did_exec read text is code legal work ran = record {
+    read = read;
+    text = text;
+    image_is = is;
+    code = code;
+    legal = let P : List Entry → Type 0 = λ entries. IsLegal (history_along image job.region job.entries entries) in subst P (sym schedule) legal;
+    work =
+        work ∙ work_along image job.region job.entries h image_is region_is
+        ∙ ap (λ (entries : List Entry). work_of (history_along image job.region job.entries entries)) (sym schedule);
+    ran = let P : List Entry → Type 0 = λ entries. RanTo (history_along image job.region job.entries entries) end call.got_before call.got_after call.out_before call.out_after in subst P (sym schedule) ran;
+  }
+
+  pub line_told : (line : ℕ) (o : Option Contents) → line ≡ line_of h → o ≡ Some image → line ≡ line_by (Some job) o call
+  line_told line o e is =
+      e ∙ line_along image job.region job.entries h image_is region_is
+      ∙ ap (λ (entries : List Entry). line_of (history_along image job.region job.entries entries)) (sym schedule)
+      ∙ ap (λ (o : Option Contents). line_by (Some job) o call) (sym is)
+
+pub ends_exec : (job : Job) (image : Contents) (call : Call) (end : End) → DidExec job image call end → EndsExec job call end
+ends_exec job image call (Ran over) d = (image, d)
+ends_exec job image call WriteFault d = (image, d)
+ends_exec job image call NoMemory d = (d.read.calm, inr (image, d))
+ends_exec job image call Words d = absurd d.ran
+ends_exec job image call ReadFault d = absurd d.ran
+ends_exec job image call (Refused reason) d = absurd d.ran
+ends_exec job image call (BadImage fault) d = absurd d.ran
+
+pub no_line : (o : Option Job) (image : Option Contents) (call : Call) → image ≡ None → line_by o image call ≡ 0
+no_line None image call e = refl
+no_line (Some job) None call e = refl
+no_line (Some job) (Some image) call e = absurd (cc)
+
+-- what the stages of `exec` say together
+pub exec_end : (job : Job) (image : Contents) (call : Call) (end : End) (w h : History) → w ≡ opening image job.region job.entries → h.image ≡ w.image → h.region ≡ w.region
+    → IsLegal (history_along w.image w.region job.entries h.entries)
+    → RanTo (history_along w.image w.region job.entries h.entries) end call.got_before call.got_after call.out_before call.out_after
+    → call.schedule ≡ h.entries → call.work ≡ work_of h → call.image ≡ Some h.image → call.code ≡ [] → WasRead job.file enough_of call
+    → ((text : List ℕ) → text_in call.told job.file ≡ Some text → IsImage text image) → EndsExec job call end
+exec_end job image call end w h e i r legal ran schedule work is code read text =
+    let ei : w.image ≡ image = ap (λ (h : History). h.image) e in
+    let er : w.region ≡ job.region = ap (λ (h : History). h.region) e in
+    let L : Contents → ℕ → Type 0 = λ image region. IsLegal (history_along image region job.entries h.entries) in
+    let R : Contents → ℕ → Type 0 = λ image region. RanTo (history_along image region job.entries h.entries) end call.got_before call.got_after call.out_before call.out_after in
+    let legal' : L image job.region = subst (λ (region : ℕ). L image region) er (subst (λ (image : Contents). L image w.region) ei legal) in
+    let ran' : R image job.region = subst (λ (region : ℕ). R image region) er (subst (λ (image : Contents). R image w.region) ei ran) in
+    ends_exec job image call end (did_exec job image call end h schedule (i ∙ ei) (r ∙ er) read text (is ∙ ap Some (i ∙ ei)) code legal' work ran')

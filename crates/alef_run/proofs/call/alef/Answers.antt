@@ -1,0 +1,29 @@
+use Rattle.alef_run.proofs.Causes.{words_cause, words_end, missing_end, host_end, out_end, refused_end, no_image_end, complete_end, image_end}
+use Rattle.alef_run.proofs.call.alef.Goals as goal
+
+pub returns-clause-words : goal.returns-clause-words
+returns-clause-words g c = words_cause _ _ _ c.serve-report.ensures.end
+
+pub returns-clause-no_job : goal.returns-clause-no_job
+returns-clause-no_job g c = words_end _ _ _ c.serve-report.ensures.end
+
+pub returns-clause-missing : goal.returns-clause-missing
+returns-clause-missing g c = λ job. missing_end _ _ _ job c.serve-report.ensures.end
+
+pub returns-clause-host_fault : goal.returns-clause-host_fault
+returns-clause-host_fault g c = host_end _ _ _ c.serve-report.ensures.end
+
+pub returns-clause-out_fault : goal.returns-clause-out_fault
+returns-clause-out_fault g c = out_end _ _ _ c.serve-report.ensures.end
+
+pub returns-clause-not_a_form : goal.returns-clause-not_a_form
+returns-clause-not_a_form g c = λ job text. refused_end _ _ _ job text c.serve-report.ensures.end
+
+pub returns-clause-no_image : goal.returns-clause-no_image
+returns-clause-no_image g c = λ job text fault. no_image_end _ _ _ job text fault c.serve-report.ensures.end
+
+pub returns-clause-run : goal.returns-clause-run
+returns-clause-run g c = λ job text form. complete_end _ _ _ job text form c.serve-report.ensures.end
+
+pub returns-clause-exec : goal.returns-clause-exec
+returns-clause-exec g c = λ job text image. image_end _ _ _ job text image c.serve-report.ensures.end

@@ -1,0 +1,109 @@
+//! The top call.
+
+ghost use Rattle.std.specs.Prelude.{◌≡◌, ◌≢◌, ◌↔◌, ◌<◌, ◌⊎◌, ℕ, List, [], None, Some, Err, map, option_map};
+ghost use Rattle.al_base.specs.declared.over.Over.TheVariants as Over;
+ghost use Rattle.al_base.specs.declared.over.Over.{Over as Ending};
+ghost use Rattle.al_host.specs.Outside.{Faulted, WhereTold};
+ghost use Rattle.al_first.specs.declared.form.Form.{Form};
+ghost use Rattle.al_first.specs.Form.{IsForm};
+ghost use Rattle.al_words.specs.declared.job.Job.{Job};
+ghost use Rattle.al_words.specs.declared.job.Mode.TheVariants as Mode;
+ghost use Rattle.rv_isa.specs.declared.image.Contents.{Contents};
+ghost use Rattle.rv_image.specs.declared.fault.ImageFault.{ImageFault};
+ghost use Rattle.rv_image.specs.Spelling.{IsImage};
+ghost use Rattle.rv_image.specs.Reading.{reading};
+ghost use Rattle.alef_run.specs.declared.report.Refused.TheVariants.{Form as Another};
+ghost use Rattle.alef_run.specs.Status.{status_of, line_of_end};
+ghost use Rattle.alef_run.specs.Call.{LogGets, LacksText, text_in, call_by};
+ghost use Rattle.alef_run.specs.RunMode.{HasNoForm};
+ghost use Rattle.alef_run.specs.Modes.{Ends, job_by, line_in};
+
+use crate::exec::exec;
+use crate::first_form::run;
+use crate::outside::write_all;
+use crate::report::{End, Report, line_of};
+use al_host::{Host, Sink};
+use al_words::{Mode, WordsStop, read_job};
+use std::alloc::Global;
+use std::sync::Wait;
+use std::thread::Threads;
+
+/// All of a call but its log, and the line of the text in which the run trapped, else 0.
+fn serve<H: Host, K: Sink>(
+    alloc: Global,
+    words: &[&str],
+    host: &mut H,
+    out: &mut K,
+) -> (Report, u32)
+    ensures end { Ends (map (λ word. word.now) words.now) (call_by (H.content host.old) (H.content host.new) (H.faults host.old) (H.faults host.new) (K.got out.old) (K.got out.new) (K.faults out.old) (K.faults out.new) result.0) result.0.end }
+    ensures line { result.1 ≡ line_in (map (λ word. word.now) words.now) (call_by (H.content host.old) (H.content host.new) (H.faults host.old) (H.faults host.new) (K.got out.old) (K.got out.new) (K.faults out.old) (K.faults out.new) result.0) }
+    ensures status { result.0.status ≡ status_of result.0.end }
+{
+    let job = match read_job(alloc, words) {
+        Ok(job) => job,
+        Err(WordsStop::Fault(_)) => return (Report::nothing(alloc, End::Words), 0),
+        Err(WordsStop::NoMemory) => return (Report::nothing(alloc, End::NoMemory), 0),
+    };
+    match job.mode {
+        Mode::Run => (run(alloc, job.file.as_str(), host, out), 0),
+        Mode::Exec => exec(alloc, &job, host, out),
+        // the other modes are yet to come
+        _ => (Report::nothing(alloc, End::Words), 0),
+    }
+}
+
+/// Writes the line of an end to the log. A fault of the log changes nothing else.
+fn write_line<L: Sink>(end: &End, line: u32, log: &mut L)
+    ensures { LogGets (line_of_end line end.now) (L.got log.old) (L.got log.new) (L.faults log.old) (L.faults log.new) }
+{
+    let mut buf = [0; 80];
+    match write_all(log, line_of(end, line, &mut buf)) {
+        Ok(()) => (),
+        Err(_) => (),
+    }
+}
+
+/// The command `alef`. `run FILE` reads the text of that name, makes its code words, runs them and writes what they print;
+/// `exec IMAGE` reads the image of that name, runs it on this thread and writes what it puts out. It says what it did, and writes
+/// a line to the log where it did not end well.
+pub fn alef<R: Threads + Wait + Sync, H: Host, K: Sink, L: Sink>(
+    _rt: &R,
+    alloc: Global,
+    words: &[&str],
+    host: &mut H,
+    out: &mut K,
+    log: &mut L,
+) -> Report
+    // Why the call ends as it does, and what it did.
+    ensures end { Ends (map (λ word. word.now) words.now) (call_by (H.content host.old) (H.content host.new) (H.faults host.old) (H.faults host.new) (K.got out.old) (K.got out.new) (K.faults out.old) (K.faults out.new) result) result.end }
+    ensures status { result.status ≡ status_of result.end }
+    ensures log { LogGets (line_of_end (line_in (map (λ word. word.now) words.now) (call_by (H.content host.old) (H.content host.new) (H.faults host.old) (H.faults host.new) (K.got out.old) (K.got out.new) (K.faults out.old) (K.faults out.new) result)) result.end) (L.got log.old) (L.got log.new) (L.faults log.old) (L.faults log.new) }
+
+    // Each cause has its end, unless memory ran out before.
+    ensures words { result.end ≡ End.Words → job_by (map (λ word. word.now) words.now) ≡ None }
+    ensures no_job { job_by (map (λ word. word.now) words.now) ≡ None → (result.end ≡ End.Words) ⊎ (result.end ≡ End.NoMemory) }
+    ensures missing { (job : Job) → job_by (map (λ word. word.now) words.now) ≡ Some job → LacksText (H.content host.old) job.file
+        → (result.end ≡ End.ReadFault) ⊎ (result.end ≡ End.NoMemory) }
+    ensures host_fault { H.faults host.old < H.faults host.new → result.end ≡ End.ReadFault }
+    ensures out_fault { K.faults out.old < K.faults out.new → result.end ≡ End.WriteFault }
+    ensures not_a_form { (job : Job) (text : List ℕ) → job_by (map (λ word. word.now) words.now) ≡ Some job → job.mode ≡ Mode.Run
+        → text_in (H.content host.old) job.file ≡ Some text → HasNoForm text
+        → (result.end ≡ End.Refused Another) ⊎ ((result.end ≡ End.ReadFault) ⊎ (result.end ≡ End.NoMemory)) }
+    ensures no_image { (job : Job) (text : List ℕ) (fault : ImageFault) → job_by (map (λ word. word.now) words.now) ≡ Some job → job.mode ≡ Mode.Exec
+        → text_in (H.content host.old) job.file ≡ Some text → reading text ≡ Err fault
+        → (result.end ≡ End.BadImage fault) ⊎ ((result.end ≡ End.ReadFault) ⊎ (result.end ≡ End.NoMemory)) }
+
+    // A text of the first form and an image run to their end, unless the world outside has a fault or memory runs out.
+    ensures run { (job : Job) (text : List ℕ) (form : Form) → job_by (map (λ word. word.now) words.now) ≡ Some job → job.mode ≡ Mode.Run
+        → text_in (H.content host.old) job.file ≡ Some text → IsForm text form
+        → ¬ (Faulted (H.faults host.old) (H.faults host.new)) → ¬ (Faulted (K.faults out.old) (K.faults out.new))
+        → (result.end ≡ End.Ran Over.Done) ⊎ (result.end ≡ End.NoMemory) }
+    ensures exec { (job : Job) (text : List ℕ) (image : Contents) → job_by (map (λ word. word.now) words.now) ≡ Some job → job.mode ≡ Mode.Exec
+        → text_in (H.content host.old) job.file ≡ Some text → IsImage text image
+        → ¬ (Faulted (H.faults host.old) (H.faults host.new)) → ¬ (Faulted (K.faults out.old) (K.faults out.new))
+        → ((over : Ending) × (result.end ≡ End.Ran over)) ⊎ (result.end ≡ End.NoMemory) }
+{
+    let (report, line) = serve(alloc, words, host, out);
+    write_line(&report.end, line, log);
+    report
+}
