@@ -1,0 +1,9 @@
+pub mod Closed
+pub mod Begins
+pub mod Stops
+pub mod ExprLaw
+pub mod Follow
+pub mod ExprSteps
+pub mod ExprComplete
+pub mod Turn
+pub mod Parts

@@ -1,0 +1,37 @@
+//! The expressions that stand in a text.
+ghost use Rattle.std.specs.Prelude.{◌≡◌, ◌≢◌, ◌<◌, ◌≤◌, ℕ, length, IfOk, Ok, Err};
+ghost use Rattle.al_tree.specs.Parts.{IsPartAt, IsPartFault};
+ghost use Rattle.al_tree.specs.declared.expression.Expr.{Expr as SpecExpr};
+ghost use Rattle.al_tree.specs.declared.fault.ParseFault.{ParseFault as SpecFault};
+ghost use Rattle.al_parse_expr.specs.Calls.{expressions_of};
+
+use crate::assignment::within;
+use crate::operand::Want;
+use al_lex::Tokens;
+use al_tree::{Cursor, Expr, ParseStop, TypeNames, token_number, tokens_from};
+use std::alloc::Global;
+
+/// How many levels a tree may have.
+const LIMIT: u32 = 200;
+
+/// The expression that begins at that token, commas included, read as far as it goes, with the number of the token behind
+/// it. A name is that of a type where `types` has it.
+pub fn expr(
+    alloc: Global,
+    toks: &Tokens,
+    at: u32,
+    types: &TypeNames,
+) -> Result<(Expr, u32), ParseStop>
+    requires { at < length toks.now.list }
+    ensures read { IfOk result (λ part. IsPartAt (expressions_of toks.now types.now) toks.now at part.0 part.1) }
+    ensures whole { (x : SpecExpr) (next : ℕ) → IsPartAt (expressions_of toks.now types.now) toks.now at x next → result ≢ Err ParseStop.NoMemory → result ≡ Ok (x, next) }
+    ensures fault { (fault : SpecFault) → result ≡ Err (ParseStop.Fault fault) → IsPartFault (expressions_of toks.now types.now) toks.now at fault }
+{
+    let mut tokens = Cursor::new(tokens_from(toks, at));
+    let turns = toks.len();
+    let want = Want::Expression;
+    match within(alloc, toks.text(), types, turns, LIMIT, &mut tokens, want) {
+        Ok((x, _)) => Ok((x, token_number(toks, tokens.left()))),
+        Err(error) => Err(ParseStop::of(toks, error)),
+    }
+}
