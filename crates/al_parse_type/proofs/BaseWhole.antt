@@ -13,8 +13,8 @@ use Rattle.al_tree.proofs.Law.{World, Lang, Any, Has, Law, bind, map_law, look, 
 use Rattle.al_parse_type.specs.declared.part.ReadBase.{ReadBase}
 use Rattle.al_parse_type.specs.Parse as parse
 use Rattle.al_parse_type.specs.Parse.{SizedType, sees_type_name, sees_type, sized_base, pointers_from, bound, below}
-use Rattle.al_parse_type.specs.Within.{type_within, starred_within, base_within, tuple_within}
-use Rattle.al_parse_type.proofs.TypeLaw.{LType, LBase, base_long, starred_long, base_place, base_law, pointers_law, parts_law, tuple_law, type_law}
+use Rattle.al_parse_type.specs.Within.{type_within, starred_within, base_within, tuple_within, type_behind}
+use Rattle.al_parse_type.proofs.TypeLaw.{LType, LBase, base_long, starred_long, base_place, base_law, pointers_law, parts_law, tuple_law, after_law, type_law}
 use Rattle.al_parse_type.proofs.BoundComplete.{nat_lt_is, whole_bound, ends_bracket}
 use Rattle.al_parse_type.proofs.TypeComplete.{before_paren, before_bracket, not_comma_paren, not_comma_bracket, basic_not_name, T, no_capacity, some_capacity, step_arguments, step_parts, stars_c, all_stars, no_bracket, Bare, base_sees}
 use Rattle.al_parse_type.proofs.TypeWhole.{FirstType, first_type, whole_types, parts_c, inner_c}
@@ -50,6 +50,11 @@ module _ (leaves : Leaves) (types : List ℕ) where
   pub tuple_within_law : (R : Type 0) (w : World) → (R → w.fuel ≤ w.turns) → (R → 0 < w.depth) → (o : Token) → o.kind ≡ k.LeftParen → (u : List Token) (x : SizedType) → LType leaves types true u x
       → Law R w Any (λ w. tuple_within leaves types w.turns w.depth o.place x) (λ v y. LBase leaves types true (o ∷ (u ++ v)) y)
   tuple_within_law R w fits deep o oc u x a = tuple_law leaves types w.depth (λ R2 w2 d f p y. parts_law leaves types w.depth R2 w2 d f p y) R w true true refl fits deep (o ∷ []) o.place (λ c u2 xs h b ec. bare_tuple o c oc b ec) u x a
+
+  -- behind a base type
+  pub type_behind_law : (R : Type 0) (w : World) → (R → w.fuel ≤ w.turns) → (u : List Token) (x : ReadBase) (at : Place) → LBase leaves types true u x → start u ≡ at
+      → Law R w Any (λ w. type_behind leaves types w.turns w.depth at x) (λ v y. LType leaves types true (u ++ v) y)
+  type_behind_law R w fits u x at a s = after_law leaves types w.depth (λ R2 w2 d f p y. parts_law leaves types w.depth R2 w2 d f p y) R w true fits u x at a s
 
 module _ (leaves : Leaves) (types : List ℕ) (F : ℕ) where
   -- ---- steps

@@ -150,25 +150,29 @@ module _ (leaves : Leaves) (types : List ℕ) where
   some_basic (Some x) h = record { value = x; is = refl }
   some_basic None h = absurd (let f : ⊥ = cc in f)
 
-  -- a type goes on from the token that begins it
-  pub type_begins : (bare : Bool) (t : Token) (ts : List Token) → sees_type types (t ∷ ts) ≡ true → Has {A = SizedType} (λ v x. IsTypeTree leaves types bare (t ∷ v) x.0 x.1)
+  -- a base type goes on from the token that begins it
+  pub base_begins : (bare : Bool) (t : Token) (ts : List Token) → sees_type types (t ∷ ts) ≡ true → Has {A = ReadBase} (λ v x. LBase bare (t ∷ v) x)
   unfolding sees_type kind
-  type_begins bare t ts h =
+  base_begins bare t ts h =
       or_either (is_some (basic_type t.kind)) _ h
-      (λ b. let o = some_basic (basic_type t.kind) b in record { word = []; value = (ty.Basic t.place o.value, 0); is = plain (base (basic t o.is)) })
+      (λ b. let o = some_basic (basic_type t.kind) b in record { word = []; value = sized_base (ty.Basic t.place o.value) 0; is = basic t o.is })
       (λ h2. or_either (same_kind t.kind k.Tuple) _ h2
       (λ b. record {
         word = token k.LeftParen ∷ token_at here_at k.Int ∷ token k.Comma ∷ token_at here_at k.Int ∷ token k.RightParen ∷ [];
-        value = (ty.Tuple t.place (int_tree here_at ∷ int_tree here_at ∷ []), 1);
-        is = plain (base (tuple t (token k.LeftParen) (token k.RightParen) (kind_is t.kind k.Tuple b) refl (two_types bare) refl));
+        value = sized_base (ty.Tuple t.place (int_tree here_at ∷ int_tree here_at ∷ [])) 1;
+        is = tuple t (token k.LeftParen) (token k.RightParen) (kind_is t.kind k.Tuple b) refl (two_types bare) refl;
       })
       (λ h3. or_either (same_kind t.kind k.Chan) _ h3
       (λ b. record {
         word = token k.LeftParen ∷ token_at here_at k.Int ∷ token k.RightParen ∷ [];
-        value = (ty.Chan t.place (int_tree here_at) None, 1);
-        is = plain (base (channel t (token k.LeftParen) (token k.RightParen) (kind_is t.kind k.Chan b) refl (int_type true here_at) refl));
+        value = record { tree = ty.Chan t.place (int_tree here_at) None; height = 1; takes_bracket = true };
+        is = channel t (token k.LeftParen) (token k.RightParen) (kind_is t.kind k.Chan b) refl (int_type true here_at) refl;
       })
-      (λ b. record { word = []; value = (ty.Named t.place t.name [], 0); is = plain (base (named t (type_name_is t ts b))) })))
+      (λ b. record { word = []; value = sized_base (ty.Named t.place t.name []) 0; is = named t (type_name_is t ts b) })))
+
+  -- and so does a type
+  pub type_begins : (bare : Bool) (t : Token) (ts : List Token) → sees_type types (t ∷ ts) ≡ true → Has {A = SizedType} (λ v x. IsTypeTree leaves types bare (t ∷ v) x.0 x.1)
+  type_begins bare t ts h = let q = base_begins bare t ts h in record { word = q.word; value = (q.value.tree, q.value.height); is = plain (base q.is) }
 
   -- ---- lengths
 
@@ -362,7 +366,7 @@ module _ (leaves : Leaves) (types : List ℕ) (n : ℕ)
       subst (λ q. IsTypeTree leaves types bare (u ++ q) y.tree (max y.height h)) (sym none.0) (subst (λ q. IsTypeTree leaves types bare (u ++ []) y.tree q) (let z : y.height ≡ max y.height h = omega (arith, none.1) in z) (subst (λ q. IsTypeTree leaves types bare q y.tree y.height) (sym (append-nil u)) (plain d)))
   with_bounds bare u v at y (m ∷ ms) h d f s b = subst (λ q. IsTypeTree leaves types bare (u ++ v) (arrays q (m ∷ ms) y.tree) (max y.height h)) s (array (subst (λ q. IsStarred leaves types bare q u y.tree y.height) f d) b)
 
-  after_law : (R : Type 0) (w : World) (bare : Bool) → (R → w.fuel ≤ w.turns) → (u : List Token) (x : ReadBase) (at : Place) → LBase leaves types bare u x → start u ≡ at
+  pub after_law : (R : Type 0) (w : World) (bare : Bool) → (R → w.fuel ≤ w.turns) → (u : List Token) (x : ReadBase) (at : Place) → LBase leaves types bare u x → start u ≡ at
       → Law R w Any (λ w. parse.type_after leaves types w.turns w.depth (S w) at x) (λ v y. LType leaves types bare (u ++ v) y)
   unfolding parse.type_after
   after_law R w bare fits u x at a s = bind (all_turns fits (λ i w. pointers_from i at x) (pointers_law leaves types (w.fuel ≤ w.turns) bare w.turns (record w { fuel = w.turns }) refl u x at (base a) s)) (λ v y b.

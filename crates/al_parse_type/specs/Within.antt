@@ -4,7 +4,7 @@ use Rattle.al_base.specs.declared.place.Place.{Place}
 use Rattle.al_tree.specs.Types.{Leaves}
 use Rattle.al_tree.specs.Reading.{Parser}
 use Rattle.al_parse_type.specs.declared.part.ReadBase.{ReadBase}
-use Rattle.al_parse_type.specs.Parse.{SizedType, type_at, starred_at, base_at, tuple_after, below}
+use Rattle.al_parse_type.specs.Parse.{SizedType, type_at, type_after, starred_at, base_at, tuple_after, below}
 
 module _ (leaves : Leaves) (types : List ℕ) (turns depth : ℕ) where
   -- atype
@@ -22,3 +22,7 @@ module _ (leaves : Leaves) (types : List ℕ) (turns depth : ℕ) where
   -- ("," atype)+ ")", behind "(" atype
   abbrev pub tuple_within : Place → SizedType → Parser ReadBase
   tuple_within = tuple_after leaves types turns depth (below leaves types turns depth) true
+
+  -- "*"* ("[" bound "]")*, behind a base type that begins at that place
+  abbrev pub type_behind : Place → ReadBase → Parser SizedType
+  type_behind = type_after leaves types turns depth (below leaves types turns depth)

@@ -31,7 +31,7 @@ impl<
 > Types<'t, F> {
     /// Stars and bounds behind a base type that begins at that place.
     #[tactic(auto, unfolding(crate::specs::Parse::type_after))]
-    fn type_after(
+    pub(crate) fn type_after(
         &self,
         at: Place,
         x: ReadBase,

@@ -109,3 +109,30 @@ pub fn tuple_within(
     };
     rules.tuple_after(true, at, first, tokens)
 }
+
+/// The type that begins with that base type, which begins at that place.
+pub fn type_behind(
+    alloc: Global,
+    text: &[u8],
+    types: &TypeNames,
+    turns: usize,
+    depth: u32,
+    at: Place,
+    x: ReadBase,
+    tokens: &mut Cursor<'_>,
+) -> Result<(TypeTree, u32), ParseError>
+    requires depth { depth < 999 }
+    requires height { x.height ≤ depth }
+    ensures reads { Reads (spec.type_behind (leaves_of text.now) types.now turns depth at x tokens.old) result tokens.new }
+    ensures low { IfOk result (λ y. y.1 ≤ depth) }
+{
+    let rules = Types {
+        alloc,
+        text,
+        types,
+        turns,
+        depth,
+        nested: below,
+    };
+    rules.type_after(at, x, tokens)
+}

@@ -62,6 +62,13 @@ impl<'a> Cursor<'a> {
         Cursor { rest }
     }
 
+    /// Another cursor over the same tokens.
+    pub fn fork(&self) -> Cursor<'a>
+        ensures { result ≡ self.now }
+    {
+        Cursor { rest: self.rest }
+    }
+
     /// How many tokens are left.
     pub fn left(&self) -> usize
         ensures { result ≡ length self.now }
