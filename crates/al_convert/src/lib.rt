@@ -13,6 +13,3 @@ pub use kind::{
 };
 pub use literal::Literal;
 pub use sameness::{is_of_kind, parts_of, pointed, same, same_kind, same_list};
-
-#[cfg(test)]
-mod tests;

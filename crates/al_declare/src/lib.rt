@@ -17,6 +17,3 @@ mod type_tree;
 
 pub use function::{Defined, functions};
 pub use item::ask_names;
-
-#[cfg(test)]
-mod tests;

@@ -17,6 +17,3 @@ pub use lookup::{
 };
 pub use numbered::{Numbered, Numbers};
 pub use written::written_type;
-
-#[cfg(test)]
-mod tests;

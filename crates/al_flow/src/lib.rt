@@ -14,6 +14,3 @@ mod walk;
 pub use flow::find_targets;
 pub use target::Target;
 pub use targets::Targets;
-
-#[cfg(test)]
-mod tests;

@@ -10,6 +10,3 @@ mod text;
 
 pub use form::{Form, FormMember, Forms, InstanceForm, MemberType};
 pub use text::forms;
-
-#[cfg(test)]
-mod tests;

@@ -17,6 +17,3 @@ pub use within::{
     expression_within, list_within, operand_within,
 };
 pub use words::begins_value;
-
-#[cfg(test)]
-mod tests;

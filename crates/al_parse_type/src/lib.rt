@@ -17,6 +17,3 @@ pub use leaf::{number_at, other_name, sees_other_name, sees_type_name, token_byt
 pub use list::{bounds_from, dcl_within, stars_from};
 pub use part::ReadBase;
 pub use within::{base_within, starred_within, tuple_within, type_behind, type_within};
-
-#[cfg(test)]
-mod tests;

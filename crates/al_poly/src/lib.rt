@@ -29,6 +29,3 @@ pub use law::instances_law;
 pub use names::Names;
 pub use piece::owner_of;
 pub use resolve::type_of;
-
-#[cfg(test)]
-mod tests;

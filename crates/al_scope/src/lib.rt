@@ -17,6 +17,3 @@ mod walk;
 pub use declaration::{Declaration, Resolved, Scopes};
 pub use item::resolve;
 pub use names::Names;
-
-#[cfg(test)]
-mod tests;

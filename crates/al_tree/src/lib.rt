@@ -27,6 +27,3 @@ pub use part::{token_number, tokens_from};
 pub use statement::{Stmt, Variable};
 pub use type_names::TypeNames;
 pub use type_tree::{BasicType, Bound, BoundOp, Dcl, TypeTree};
-
-#[cfg(test)]
-mod tests;

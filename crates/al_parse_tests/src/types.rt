@@ -1,5 +1,5 @@
 //! Types and declarators, with the token behind each, or why there is none.
-use crate::{atype, dcl};
+use al_parse_type::{atype, dcl};
 use al_lex::lex;
 use al_tree::{ParseReason, ParseStop, TypeNames};
 use std::alloc::Global;

@@ -1,5 +1,5 @@
 //! What names stand for in a text `enum{C}; int x; void main(){ .. }`. A name stands in the line that its maker gets.
-use crate::{Declaration, Scopes, resolve};
+use al_scope::{Declaration, Scopes, resolve};
 use al_base::{NoMemory, Place};
 use al_items::{Boxed, Items};
 use al_rules::TypeStop;

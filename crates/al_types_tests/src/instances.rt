@@ -1,5 +1,5 @@
 //! Instances of small trees. `T` and `U` are parameters, `G` and `H` adts; a type stands in the line that its maker gets.
-use crate::{Instances, PolyFault, PolyStop, concrete};
+use al_poly::{Instances, PolyFault, PolyStop, concrete};
 use al_base::{NoMemory, Place};
 use al_items::{Boxed, Items};
 use al_tree::{

@@ -1,5 +1,5 @@
 //! The values of enum constants and bounds, and the names of types.
-use crate::{
+use al_tree::{
     BasicType, BinaryOp, Bound, BoundOp, Constant, Expr, Item, Name, Tree, TypeNames, TypeTree,
     UnaryOp, bound_value, enum_values,
 };

@@ -1,5 +1,5 @@
 //! Targets and faults of small bodies. A statement that a test asks of stands in the line that its maker gets.
-use crate::{Targets, find_targets};
+use al_flow::{Targets, find_targets};
 use al_base::{NoMemory, Place};
 use al_items::{Boxed, Items};
 use al_rules::TypeStop;

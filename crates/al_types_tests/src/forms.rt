@@ -1,5 +1,5 @@
 //! `aggr A { int x; U *p; union { byte b; }; }; union U; adt G[T] { T t; extern T u; };` with the instance `G[int]`.
-use crate::{Form, FormMember, Forms, MemberType, forms};
+use al_form::{Form, FormMember, Forms, MemberType, forms};
 use al_base::{NoMemory, Place};
 use al_items::Items;
 use al_poly::{ConcreteType, concrete};

@@ -1,5 +1,5 @@
 //! Expressions, with the token behind each, or why there is none.
-use crate::expr;
+use al_parse_expr::expr;
 use al_lex::lex;
 use al_tree::{ParseReason, ParseStop, TypeNames};
 use std::alloc::Global;

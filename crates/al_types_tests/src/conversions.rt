@@ -1,4 +1,4 @@
-use crate::{Literal, common, converts, same};
+use al_convert::{Literal, common, converts, same};
 use al_base::{Kind, NoMemory, Place};
 use al_items::{Boxed, Items};
 use al_typed::Ty;
