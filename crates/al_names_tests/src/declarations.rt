@@ -1,7 +1,7 @@
 //! Rules that small trees break. `S` is an adt, `T` and `U` are its parameters; a node stands in the line that its maker
 //! gets.
-use al_declare::{Defined, ask_names, functions};
 use al_base::{NoMemory, Place};
+use al_declare::{Defined, ask_names, functions};
 use al_items::{Boxed, Items};
 use al_poly::{ConcreteType, Instance, Instances};
 use al_rules::{TypeStop, broken};

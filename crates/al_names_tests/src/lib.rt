@@ -3,9 +3,7 @@
 
 #[cfg(test)]
 mod declarations;
-
 #[cfg(test)]
 mod scopes;
-
 #[cfg(test)]
 mod targets;

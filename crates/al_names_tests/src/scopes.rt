@@ -1,8 +1,8 @@
 //! What names stand for in a text `enum{C}; int x; void main(){ .. }`. A name stands in the line that its maker gets.
-use al_scope::{Declaration, Scopes, resolve};
 use al_base::{NoMemory, Place};
 use al_items::{Boxed, Items};
 use al_rules::TypeStop;
+use al_scope::{Declaration, Scopes, resolve};
 use al_tree::{
     BasicType, BinaryOp, Bound, Constant, Dcl, Declarator, Expr, Head, Item, Name, Stmt, Tree,
     TypeTree, Variable,

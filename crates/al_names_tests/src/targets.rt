@@ -1,6 +1,6 @@
 //! Targets and faults of small bodies. A statement that a test asks of stands in the line that its maker gets.
-use al_flow::{Targets, find_targets};
 use al_base::{NoMemory, Place};
+use al_flow::{Targets, find_targets};
 use al_items::{Boxed, Items};
 use al_rules::TypeStop;
 use al_tree::{Expr, Name, Stmt};

@@ -1,10 +1,10 @@
 //! The values of enum constants and bounds, and the names of types.
+use al_base::{Kind, NoMemory, Place};
+use al_items::{Boxed, Items};
 use al_tree::{
     BasicType, BinaryOp, Bound, BoundOp, Constant, Expr, Item, Name, Tree, TypeNames, TypeTree,
     UnaryOp, bound_value, enum_values,
 };
-use al_base::{Kind, NoMemory, Place};
-use al_items::{Boxed, Items};
 use std::alloc::Global;
 use std::test::Fail;
 

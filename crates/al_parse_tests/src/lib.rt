@@ -3,9 +3,7 @@
 
 #[cfg(test)]
 mod constants;
-
 #[cfg(test)]
 mod expressions;
-
 #[cfg(test)]
 mod types;

@@ -1,6 +1,6 @@
 //! Types and declarators, with the token behind each, or why there is none.
-use al_parse_type::{atype, dcl};
 use al_lex::lex;
+use al_parse_type::{atype, dcl};
 use al_tree::{ParseReason, ParseStop, TypeNames};
 use std::alloc::Global;
 use std::process::Abort;

@@ -1,5 +1,5 @@
-use al_convert::{Literal, common, converts, same};
 use al_base::{Kind, NoMemory, Place};
+use al_convert::{Literal, common, converts, same};
 use al_items::{Boxed, Items};
 use al_typed::Ty;
 use std::alloc::Global;

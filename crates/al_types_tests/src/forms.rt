@@ -1,6 +1,6 @@
 //! `aggr A { int x; U *p; union { byte b; }; }; union U; adt G[T] { T t; extern T u; };` with the instance `G[int]`.
-use al_form::{Form, FormMember, Forms, MemberType, forms};
 use al_base::{NoMemory, Place};
+use al_form::{Form, FormMember, Forms, MemberType, forms};
 use al_items::Items;
 use al_poly::{ConcreteType, concrete};
 use al_tree::{

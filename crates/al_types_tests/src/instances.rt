@@ -1,7 +1,7 @@
 //! Instances of small trees. `T` and `U` are parameters, `G` and `H` adts; a type stands in the line that its maker gets.
-use al_poly::{Instances, PolyFault, PolyStop, concrete};
 use al_base::{NoMemory, Place};
 use al_items::{Boxed, Items};
+use al_poly::{Instances, PolyFault, PolyStop, concrete};
 use al_tree::{
     AdtMember, AdtPart, BasicType, Bound, Dcl, Declarator, Item, Member, Name, Tree, TypeTree,
 };

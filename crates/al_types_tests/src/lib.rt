@@ -3,12 +3,9 @@
 
 #[cfg(test)]
 mod conversions;
-
 #[cfg(test)]
 mod forms;
-
 #[cfg(test)]
 mod instances;
-
 #[cfg(test)]
 mod written_types;

@@ -1,7 +1,7 @@
 //! Inside `adt 1[2]` with the argument byte, in a text where 0 is the name of int and the instance is aggregate 3.
-use al_environment::{Environment, Here, InstanceType, Numbered, Numbers, OwnAdt, written_type};
 use al_base::{Kind, NoMemory, Place};
 use al_convert::same;
+use al_environment::{Environment, Here, InstanceType, Numbered, Numbers, OwnAdt, written_type};
 use al_items::{Boxed, Items};
 use al_rules::TypeStop;
 use al_scope::resolve;
