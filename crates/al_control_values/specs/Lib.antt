@@ -1,0 +1,3 @@
+pub mod Units
+pub mod Reaches
+pub mod Fits
