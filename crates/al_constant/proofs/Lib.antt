@@ -1,0 +1,2 @@
+mod ConstantsAre
+mod Sizes
