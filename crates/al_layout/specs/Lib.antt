@@ -1,0 +1,4 @@
+pub mod Types
+pub mod Order
+pub mod Rules
+pub mod Rows
