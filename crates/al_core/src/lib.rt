@@ -13,8 +13,6 @@ mod sends;
 mod sharing;
 mod start;
 mod talks;
-#[cfg(test)]
-mod tests;
 mod turn;
 mod world;
 

@@ -23,8 +23,3 @@ mod world;
 pub use run::{Stop, run_script};
 pub use script::{Call, Choice, Control, Function, Instruction, Operand, Script, Source, Width};
 pub use world::{Change, Count, Held, Made, State, World};
-
-#[cfg(test)]
-mod lines;
-#[cfg(test)]
-mod tests;

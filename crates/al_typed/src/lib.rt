@@ -31,6 +31,3 @@ pub use sizes::size;
 pub use statement::{TBounds, TCommunication, TInitializer, TStmt};
 pub use ty::Ty;
 pub use unit_list::units;
-
-#[cfg(test)]
-mod tests;

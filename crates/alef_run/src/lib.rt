@@ -13,6 +13,3 @@ mod rounds;
 
 pub use call::alef;
 pub use report::{End, Refused, Report};
-
-#[cfg(test)]
-mod tests;

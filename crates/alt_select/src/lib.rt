@@ -9,6 +9,3 @@ mod talk;
 pub use answer::{Fired, Woke};
 pub use pairs::ready;
 pub use talk::{block, fire};
-
-#[cfg(test)]
-mod tests;

@@ -3,8 +3,6 @@
 
 mod begin;
 mod call;
-#[cfg(test)]
-mod call_tests;
 mod copying;
 mod execute;
 mod laws;
@@ -16,8 +14,6 @@ mod run;
 mod state;
 mod step;
 mod talk;
-#[cfg(test)]
-mod tests;
 mod windows;
 mod words;
 

@@ -8,12 +8,8 @@ mod decoder;
 mod encoder;
 mod fields;
 pub mod image;
-#[cfg(test)]
-mod image_tests;
 pub mod instr;
 mod sends;
-#[cfg(test)]
-mod tests;
 
 pub use decoder::decode;
 pub use encoder::encode;

@@ -1,8 +1,8 @@
-use super::*;
 use crate::lines::{Line, answer, answer_plus, argument, by_procs, entries, number, script};
 use al_base::{NoMemory, Over, Trap};
 use al_event::{Block, Entry, Start};
 use al_items::Items;
+use al_script::{Script, Stop, World, run_script};
 use al_script_book::{Passage, TalkName, TaskName};
 use std::alloc::Global;
 use std::process::Abort;

@@ -1,11 +1,9 @@
 ghost use Rattle.std.specs.Prelude.{◌≤◌};
 
-mod images;
-
-use crate::{End, Refused, alef};
+use crate::images::*;
 use al_base::{Over, Trap};
 use al_host::{MemHost, MemSink};
-use images::*;
+use alef_run::{End, Refused, alef};
 use rv_image::ImageFault;
 use std::alloc::Global;
 use std::process::Abort;

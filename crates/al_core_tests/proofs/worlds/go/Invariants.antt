@@ -1,6 +1,6 @@
 use Rattle.std.proofs.Common.{◌≡◌, ◌+◌, ◌≤◌, length}
 use Rattle.al_core.specs.History.{away}
-use Rattle.al_core.proofs.tests.go.Given as goal
+use Rattle.al_core_tests.proofs.worlds.go.Given as goal
 
 abbrev pub invariant-loop-proc : goal.invariant-loop-proc
 invariant-loop-proc g l = record {

@@ -1,9 +1,9 @@
 // Scripts for tests, written in lines.
 
-use super::*;
 use al_base::{NoMemory, Trap};
 use al_event::{Block, Entry};
 use al_items::Items;
+use al_script::{Call, Choice, Function, Instruction, Operand, Script, Source, Width};
 use std::alloc::Global;
 
 // A line of a script. A channel's values have one word; a call has one or two arguments.

@@ -1,6 +1,6 @@
 use Rattle.std.proofs.Common.{◌≡◌}
 use Rattle.al_core.specs.Lends.{IsLent}
-use Rattle.al_core.proofs.tests.work.Given as goal
+use Rattle.al_core_tests.proofs.worlds.work.Given as goal
 
 abbrev pub invariant-loop : goal.invariant-loop
 invariant-loop l = record {

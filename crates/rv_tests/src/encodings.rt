@@ -1,7 +1,7 @@
 //! Encodings of every instruction with edge values of its operands. The words are those of GNU binutils.
 
-use super::*;
-use crate::instr::{BranchOp, ImmediateOp, Instr, LoadOp, RegisterOp, ShiftOp, StoreOp, UpperOp};
+use rv_isa::instr::{BranchOp, ImmediateOp, Instr, LoadOp, RegisterOp, ShiftOp, StoreOp, UpperOp};
+use rv_isa::{decode, encode};
 use std::process::Abort;
 
 fn upper(op: UpperOp, rd: u8, imm: u32) -> Instr {

@@ -1,9 +1,9 @@
 // Talks one after another on one book, each value being one word.
 
-use crate::{Fired, block, fire, ready};
 use al_base::NoMemory;
 use al_event::{Branch, Branches, Words};
 use al_items::Items;
+use alt_select::{Fired, block, fire, ready};
 use chan_book::{Book, ChanFault};
 use std::alloc::Global;
 use std::process::Abort;

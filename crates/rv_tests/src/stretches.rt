@@ -3,10 +3,10 @@
 ghost use Rattle.std.specs.Prelude.{◌≡◌, IfOk, IfSome};
 ghost use Rattle.rv_exec.specs.Shown.{WaitsFor, bytes_of};
 
-use super::*;
 use al_base::{NoMemory, Trap};
 use al_event::Act;
 use al_items::Items;
+use rv_exec::{Asked, Hart, Held, Privates, stretch};
 use rv_isa::image::{Contents, Image, LineRow, Row};
 use std::alloc::Global;
 use std::process::Abort;

@@ -4,13 +4,10 @@ ghost use Rattle.std.specs.Prelude.{◌≡◌, ◌+◌, ◌≤◌, ◌<◌, [], 
 ghost use Rattle.al_core.specs.History.{away, loan_of};
 ghost use Rattle.al_core.specs.Lends.{IsLent};
 
-mod code;
-mod programs;
-
-use super::*;
+use crate::programs::*;
 use al_base::{NoMemory, Over, Trap};
+use al_core::{After, Limits, Next, StepFault, World, world_goes};
 use al_event::Entry;
-use programs::*;
 use rv_exec::{Held, stretch};
 use std::alloc::Global;
 use std::process::Abort;

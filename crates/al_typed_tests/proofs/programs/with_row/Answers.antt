@@ -4,7 +4,7 @@ use Rattle.al_typed.specs.declared.program.Aggregate.{Aggregate}
 use Rattle.al_typed.specs.Layout.{Keeps, aggregate_layout, layouts_after}
 use Rattle.al_typed.specs.Types.{is_complete}
 use Rattle.al_typed.proofs.Rows.{pushed_laid_out}
-use Rattle.al_typed.proofs.tests.with_row.Goals as goal
+use Rattle.al_typed_tests.proofs.programs.with_row.Goals as goal
 
 pub returns : goal.returns
 returns c =

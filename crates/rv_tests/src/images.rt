@@ -1,8 +1,8 @@
 //! Each bound of an image, kept and just passed.
 
-use crate::image::{Contents, Image, Item, LineRow, Row};
 use al_base::NoMemory;
 use al_items::Items;
+use rv_isa::image::{Contents, Image, Item, LineRow, Row};
 use std::alloc::Global;
 
 /// A program that ends at once, with two globals.

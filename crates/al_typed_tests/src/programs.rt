@@ -1,11 +1,11 @@
 ghost use Rattle.std.specs.Prelude.{◌≡◌, [], IfOk};
 ghost use Rattle.al_typed.specs.Layout.{IsLaidOut};
 
-use crate::{
-    Aggregate, Function, Limit, Program, TStmt, Ty, are_complete, room_of, size, units, weigh,
-};
 use al_base::{Kind, NoMemory};
 use al_items::{Boxed, Items};
+use al_typed::{
+    Aggregate, Function, Limit, Program, TStmt, Ty, are_complete, room_of, size, units, weigh,
+};
 use std::alloc::Global;
 use std::test::Fail;
 
@@ -94,7 +94,7 @@ fn two(alloc: Global, first: Ty, second: Ty) -> Result<Items<Ty>, NoMemory> {
 
 /// `aggr P{byte a;lint b;usint c;}; union U{int n;byte b[6];}; aggr Q{P p;byte a;}; adt E{void f();};
 /// union V{usint n;byte b[3];};`
-#[tactic(auto, using(crate::proofs::Layouts::none_laid_out))]
+#[tactic(auto, using(al_typed::proofs::Layouts::none_laid_out))]
 fn worked_rows(alloc: Global) -> Result<Items<Aggregate>, Fail>
     ensures { IfOk result (λ rows. IsLaidOut rows) }
 {
@@ -135,7 +135,7 @@ fn shown(alloc: Global, p: &Program, ty: &Ty) -> Result<String, Fail>
 }
 
 #[test]
-#[tactic(auto, using(crate::proofs::Layouts::none_laid_out))]
+#[tactic(auto, using(al_typed::proofs::Layouts::none_laid_out))]
 fn limits_are_as_written(rt: HostRuntime) -> Result<(), Fail> {
     let alloc = rt.alloc();
     let rows = [

@@ -1,14 +1,14 @@
 //! Runtime calls, with what they ask and how a task goes on.
 
-ghost use Rattle.std.specs.Prelude.{◌≡◌, IsTrue, IfOk, IfSome};
+ghost use Rattle.std.specs.Prelude.{◌≡◌, IsTrue, IfOk, IfSome, slice_get};
 ghost use Rattle.rv_exec.specs.Answers.{AnswersTalk, CanAnswer};
+ghost use Rattle.al_world.specs.Control.{received_by};
 ghost use Rattle.rv_exec.specs.Shown.{WaitsFor, bytes_of};
 
-use crate::resuming::received;
-use crate::tests::{first_ask, first_of};
-use crate::{Asked, Held, resume, stretch};
+use crate::stretches::{first_ask, first_of};
 use al_base::{NoMemory, Trap};
 use al_event::{Act, Block, Branch};
+use rv_exec::{Asked, Held, resume, stretch};
 use rv_isa::image::Image;
 use std::alloc::Global;
 use std::process::Abort;
@@ -17,6 +17,22 @@ use std::process::Abort;
 const STACK: u32 = 0x0400_0000;
 
 const STACK_END: u32 = 0x0440_0000;
+
+/// How many words a branch of a talk receives.
+fn received(branches: &[Branch], number: usize) -> u32
+    ensures { result ≡ received_by (slice_get branches.now number) }
+{
+    match branches.get(number) {
+        Some(branch) => {
+            if branch.send.is_some() {
+                0
+            } else {
+                branch.words
+            }
+        }
+        None => 0,
+    }
+}
 
 fn is_talk_answer(branches: &[Branch], words: &[u32]) -> bool
     ensures { IsTrue result → AnswersTalk branches.now words.now }

@@ -1,6 +1,6 @@
 //! Programs with tasks, procs and channels.
 
-use super::code::Code;
+use crate::code::Code;
 use al_base::NoMemory;
 use rv_isa::image::Image;
 use std::alloc::Global;
