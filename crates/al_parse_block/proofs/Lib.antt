@@ -1,0 +1,10 @@
+pub mod BegunIs
+pub mod Starts
+pub mod SimpleLaw
+pub mod BegunLaw
+pub mod BlockLaw
+pub mod Steps
+pub mod BegunComplete
+pub mod ValueComplete
+pub mod BlockComplete
+pub mod Parts

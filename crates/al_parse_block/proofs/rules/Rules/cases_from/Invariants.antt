@@ -1,0 +1,7 @@
+use Rattle.std.proofs.Common.{◌≡◌, ◌-◌, ◌≤◌}
+use Rattle.al_tree.specs.Leaves.{leaves_of}
+use Rattle.al_parse_block.specs.Parse.{within, cases_from}
+use Rattle.al_parse_block.proofs.rules.Rules.cases_from.Given as goal
+
+abbrev pub invariant-loop-turn : goal.invariant-loop-turn
+invariant-loop-turn g l = record { reads : cases_from (leaves_of l.self.context.text.now) l.self.context.types.now l.self.context.turns l.self.context.depth (within (leaves_of l.self.context.text.now) l.self.context.types.now l.self.context.turns l.self.context.depth) l.fn.with_default l.self.context.turns l.fn.found l.fn.height l.fn.tokens ≡ cases_from (leaves_of l.self.context.text.now) l.self.context.types.now l.self.context.turns l.self.context.depth (within (leaves_of l.self.context.text.now) l.self.context.types.now l.self.context.turns l.self.context.depth) l.with_default (l._turn-end - l._turn) l.found l.height l.tokens; low : l.height ≤ l.self.context.depth }

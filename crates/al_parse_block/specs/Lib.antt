@@ -1,0 +1,4 @@
+pub mod Begun
+pub mod Parse
+pub mod Nests
+pub mod Calls
