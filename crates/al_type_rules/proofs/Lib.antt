@@ -1,0 +1,4 @@
+pub mod FaultsAre
+pub mod ArraysAre
+pub mod MembersAre
+pub mod SizesAre
