@@ -1,0 +1,8 @@
+pub mod Sound
+pub mod Steps
+pub mod NamesAre
+pub mod InitializerIs
+pub mod ParameterSound
+pub mod ParameterComplete
+pub mod MemberSound
+pub mod MemberComplete
