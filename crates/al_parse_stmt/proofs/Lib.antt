@@ -1,0 +1,10 @@
+pub mod NamesAre
+pub mod KeptNames
+pub mod LastFirst
+pub mod Balanced
+pub mod Facts
+pub mod HeadSound
+pub mod ItemSound
+pub mod HeadComplete
+pub mod ItemComplete
+pub mod TextIs

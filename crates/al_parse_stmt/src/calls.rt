@@ -1,0 +1,36 @@
+//! The tree of a text.
+ghost use Rattle.std.specs.Prelude.{◌≡◌, ◌≢◌, Ok, Err, IfOk};
+ghost use Rattle.al_tree.specs.declared.item.Tree.{Tree as SpecTree};
+ghost use Rattle.al_parse_stmt.specs.Calls.{IsText};
+
+use crate::items::Reader;
+use crate::names::names_of;
+use al_lex::Tokens;
+use al_tree::{Cursor, ParseStop, Tree, tokens_from};
+use std::alloc::Global;
+
+/// How many levels a tree may have.
+const LIMIT: u32 = 200;
+
+/// The tree of these tokens. A fault is told where the text has no tree of at most 200 levels; which token it names is in no
+/// clause.
+pub fn parse(alloc: Global, toks: &Tokens) -> Result<Tree, ParseStop>
+    ensures tree { IfOk result (IsText toks.now) }
+    ensures whole { (tree : SpecTree) → IsText toks.now tree → result ≢ Err ParseStop.NoMemory → result ≡ Ok tree }
+{
+    let turns = toks.len();
+    let list = tokens_from(toks, 0);
+    let reader = Reader {
+        alloc,
+        turns,
+        depth: LIMIT - 1,
+    };
+    let mut tokens = Cursor::new(list);
+    match reader.text_items(toks.text(), &mut tokens) {
+        Ok((items, _)) => match names_of(alloc, toks.text(), list) {
+            Ok(names) => Ok(Tree { items, names }),
+            Err(_) => Err(ParseStop::NoMemory),
+        },
+        Err(error) => Err(ParseStop::of(toks, error)),
+    }
+}
