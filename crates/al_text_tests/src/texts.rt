@@ -105,3 +105,19 @@ fn texts_have_so_many_items(rt: HostRuntime) -> Result<(), Fail> {
     }
     Ok(())
 }
+
+#[test]
+fn two_hundred_levels_are_read_and_no_more(rt: HostRuntime) -> Result<(), Fail> {
+    let alloc = rt.alloc();
+    let deep = Err((ParseReason::Deep, 205));
+    for (signs, expected) in [(195, Ok(1)), (196, deep), (250, deep)] {
+        let mut text = Vec::from_slice(alloc, b"void main(){int a;a=")?;
+        for _sign in 0..signs {
+            text.push(b'!')?;
+        }
+        text.extend_from_slice(b"a;}")?;
+        let found = answer(&rt, alloc, text.as_slice())?;
+        assert!(rt; found == Some(expected), "{signs} signs: {found:?}");
+    }
+    Ok(())
+}
