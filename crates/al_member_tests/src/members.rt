@@ -1,6 +1,6 @@
 //! Parameters, constants, initializers and members, with the token behind each, or why there is none.
 use al_lex::lex;
-use al_parse_member::{Context, names_of};
+use al_parse_member::Context;
 use al_tree::{Cursor, ParseError, ParseReason, ParseStop, TypeNames, token_number, tokens_from};
 use std::alloc::Global;
 use std::process::Abort;
@@ -194,18 +194,6 @@ fn parts_end_at_these_tokens(rt: HostRuntime) -> Result<(), Fail> {
     for (what, text, types, expected) in PARTS {
         let found = answer(&rt, rt.alloc(), what, text, types)?;
         assert!(rt; found == Some(expected), "{text:?}: {found:?}");
-    }
-    Ok(())
-}
-
-#[test]
-fn names_have_their_bytes(rt: HostRuntime) -> Result<(), Fail> {
-    let toks = lex(rt.alloc(), b"first second first third")?;
-    let names = names_of(rt.alloc(), &toks)?;
-    assert!(rt; names.len() == 3);
-    let expected: [&[u8]; 3] = [b"first", b"second", b"third"];
-    for (name, bytes) in names.as_slice().iter().zip(expected) {
-        assert!(rt; name.as_slice() == bytes);
     }
     Ok(())
 }

@@ -1,6 +1,5 @@
 pub mod Sound
 pub mod Steps
-pub mod NamesAre
 pub mod InitializerIs
 pub mod ParameterSound
 pub mod ParameterComplete

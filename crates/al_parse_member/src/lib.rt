@@ -4,8 +4,6 @@
 mod context;
 mod initializers;
 mod members;
-mod names;
 mod parameters;
 
 pub use context::{Context, name_at, type_name};
-pub use names::names_of;

@@ -1,6 +1,0 @@
-use Rattle.std.proofs.Common.{◌≡◌, [], drop}
-use Rattle.al_tree.specs.Leaves.{names_from}
-use Rattle.al_parse_member.proofs.names.names_of.Given as goal
-
-abbrev pub invariant-loop-t : goal.invariant-loop-t
-invariant-loop-t l = names_from l.text [] l.t-items ≡ names_from l.text l.names (drop l.t-index l.t-items)
