@@ -5,3 +5,7 @@ pub mod ParameterSound
 pub mod ParameterComplete
 pub mod MemberSound
 pub mod MemberComplete
+pub mod Steady
+pub mod Past
+pub mod ParameterSteady
+pub mod MemberSteady
