@@ -8,3 +8,6 @@ pub mod ItemSound
 pub mod HeadComplete
 pub mod ItemComplete
 pub mod TextIs
+pub mod HeadSteady
+pub mod ItemSteady
+pub mod TextSteady

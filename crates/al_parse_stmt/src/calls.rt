@@ -1,7 +1,8 @@
 //! The tree of a text.
 ghost use Rattle.std.specs.Prelude.{◌≡◌, ◌≢◌, Ok, Err, IfOk};
+ghost use Rattle.al_tree.specs.declared.fault.ParseFault.{ParseFault as SpecFault};
 ghost use Rattle.al_tree.specs.declared.item.Tree.{Tree as SpecTree};
-ghost use Rattle.al_parse_stmt.specs.Calls.{IsText};
+ghost use Rattle.al_parse_stmt.specs.Calls.{IsText, IsNamed};
 
 use crate::items::Reader;
 use crate::names::names_of;
@@ -12,11 +13,12 @@ use std::alloc::Global;
 /// How many levels a tree may have.
 const LIMIT: u32 = 200;
 
-/// The tree of these tokens. A fault is told where the text has no tree of at most 200 levels; which token it names is in no
-/// clause.
+/// The tree of these tokens. A fault is told where the text has no tree of at most 200 levels. It names a token: where that is
+/// unexpected, and no adt with parameters begins before it, no tokens that begin with those up to it are a text.
 pub fn parse(alloc: Global, toks: &Tokens) -> Result<Tree, ParseStop>
     ensures tree { IfOk result (IsText toks.now) }
     ensures whole { (tree : SpecTree) → IsText toks.now tree → result ≢ Err ParseStop.NoMemory → result ≡ Ok tree }
+    ensures fault { (fault : SpecFault) → result ≡ Err (ParseStop.Fault fault) → IsNamed toks.now fault }
 {
     let turns = toks.len();
     let list = tokens_from(toks, 0);

@@ -1,8 +1,10 @@
-use Rattle.std.proofs.Common.{◌≡◌, ◌≢◌, ◌<◌, [], length, Ok, Err, ap, ap₂, ◌∙◌, arith}
+use Rattle.std.proofs.Common.{◌≡◌, ◌≢◌, ◌<◌, [], length, Ok, Err, sym, ap, ap₂, ◌∙◌, arith}
 use Rattle.al_tree.specs.Leaves.{leaves_of, names_from}
 use Rattle.al_tree.specs.declared.cursor.ParseError.TheVariants.{NoMemory}
+use Rattle.al_tree.specs.declared.fault.ParseStop.TheVariants.{Fault}
 use Rattle.al_parse_stmt.specs.Parse.{text_items}
 use Rattle.al_parse_stmt.proofs.TextIs.{text_is, text_same, text_names, text_none}
+use Rattle.al_parse_stmt.proofs.TextSteady.{fault_error}
 use Rattle.al_parse_stmt.proofs.calls.parse.Goals as goal
 
 pub returns-in-Ok-names_of-clause-tree : goal.returns-in-Ok-names_of-clause-tree
@@ -32,3 +34,13 @@ returns-in-Err-clause-whole c =
     let short : length list < length toks.list = omega (arith, c.tokens_from-list.ensures.size, c.len-turns.ensures.some, c.len-turns.ensures.value) in
     let reads : c.in-Err.error ≢ NoMemory → text_items (leaves_of toks.text) (length toks.list) 199 list ≡ Err c.in-Err.error = λ some. rw (c.text.ensures, c.len-turns.ensures.value, c.new-tokens.ensures) at (c.in-Err.ensures.reads some) in
     λ tree t some. absurd (text_none toks list c.tokens_from-list.ensures.tokens (length toks.list) short c.in-Err.error reads (λ stops. some (ap Err (c.of.ensures ∙ stops))) tree t)
+
+pub returns-in-Err-clause-fault : goal.returns-in-Err-clause-fault
+returns-in-Err-clause-fault c =
+    let toks = c.args.toks.now in
+    let list = c.tokens_from-list.result.now in
+    let short : length list < length toks.list = omega (arith, c.tokens_from-list.ensures.size, c.len-turns.ensures.some, c.len-turns.ensures.value) in
+    let reads : c.in-Err.error ≢ NoMemory → text_items (leaves_of toks.text) (length toks.list) 199 list ≡ Err c.in-Err.error = λ some. rw (c.text.ensures, c.len-turns.ensures.value, c.new-tokens.ensures) at (c.in-Err.ensures.reads some) in
+    λ fault is.
+    let stops : c.of.result ≡ Fault fault = cc in
+    fault_error toks list c.tokens_from-list.ensures.tokens (length toks.list) short c.in-Err.error reads fault (sym c.of.ensures ∙ stops)
