@@ -1,0 +1,4 @@
+pub mod Rules
+pub mod Bodies
+pub mod Owned
+pub mod Functions
