@@ -1,0 +1,4 @@
+mod ExpressionsAre
+mod Gathering
+mod SizesAre
+mod StatementsAre
