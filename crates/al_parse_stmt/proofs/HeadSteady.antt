@@ -1,27 +1,24 @@
 -- The parsers of declarators at file level are steady.
-use Rattle.std.proofs.Common.{◌≡◌, ℕ, zero, suc, pred, ◌+◌, ◌<◌, ◌≤◌, max, nat_lt, Bool, true, false, if◌then◌else◌, List, [], ◌∷◌, ◌++◌, length, Option, Some, None, Ok, Err, refl, sym, ap, ◌∙◌, subst, arith}
+use Rattle.std.proofs.Common.{ℕ, zero, suc, pred, ◌+◌, ◌≤◌, max, nat_lt, if◌then◌else◌, List, [], ◌∷◌, ◌++◌, Some, None, arith}
 use Rattle.al_base.specs.declared.place.Place.{Place}
 use Rattle.al_lex.specs.declared.kind.TokenKind.TheVariants as k
 use Rattle.al_lex.specs.declared.token.Token.{Token}
 use Rattle.al_tree.specs.Words.{start}
 use Rattle.al_tree.specs.Types.{Leaves, with_names, name_at}
 use Rattle.al_tree.specs.Items.{Declared, parameters_of}
-use Rattle.al_tree.specs.Reading.{Parser, ◌>>=◌, ◌>>◌, pure, refuse, kind, same_kind, take_if, expect}
+use Rattle.al_tree.specs.Reading.{◌>>=◌, ◌>>◌}
 use Rattle.al_tree.specs.declared.expression.Name.{Name}
 use Rattle.al_tree.specs.declared.item.Owner.{Owner}
 use Rattle.al_tree.specs.declared.item.Declarator.{Declarator}
 use Rattle.al_tree.specs.declared.item.Declarator.TheVariants as dec
-use Rattle.al_tree.proofs.Law.{Any, head, kind_local, start_local}
-use Rattle.al_parse_type.specs.Parse.{sees_type_name, other_name, bounds_from, stars_from}
+use Rattle.al_tree.proofs.Law.{Any, start_local}
+use Rattle.al_parse_type.specs.Parse.{sees_type_name, stars_from}
 use Rattle.al_parse_type.proofs.BoundLaw.{down_fits, lt_grows}
 use Rattle.al_parse_type.proofs.TypeLaw.{type_name_local}
-use Rattle.al_parse_member.specs.Parameters.{Parameters, type_name, parameter_list}
-use Rattle.al_parse_member.specs.Members.{initializer}
-use Rattle.al_parse_member.proofs.Steady.{Steady, pure_steady, refuse_steady, bind_steady, map_steady, choose_steady, look_steady, fewer, anywhere, take_steady, one_steady, expect_steady}
+use Rattle.al_parse_member.proofs.Steady.{Steady, pure_steady, bind_steady, map_steady, choose_steady, look_steady, fewer, anywhere, take_steady, one_steady, expect_steady}
 use Rattle.al_parse_member.proofs.ParameterSteady.{ask_steady, stars_steady, bounds_steady, type_name_steady, other_name_steady, list_steady}
 use Rattle.al_parse_member.proofs.MemberSteady.{initializer_steady}
 use Rattle.al_parse_stmt.specs.Heads as parse
-use Rattle.al_parse_stmt.specs.Heads.{SizedDeclarator, Declarators}
 
 module _ (leaves : Leaves) (types : List ℕ) (F n F2 n2 : ℕ) (turns : F ≤ F2) (low : n ≤ n2) where
   type_names_steady : (m m2 : ℕ) → m ≤ m2 → (xs : List Name) → Steady m Any (parse.type_names_from types m xs) (parse.type_names_from types m2 xs)

@@ -1,5 +1,5 @@
 -- The parsers of items are steady, but for the one of declarations where adts have parameters.
-use Rattle.std.proofs.Common.{◌≡◌, ℕ, zero, suc, pred, ◌+◌, ◌<◌, ◌≤◌, max, nat_lt, Bool, true, false, if◌then◌else◌, List, [], ◌∷◌, ◌++◌, map, length, Option, Some, None, Ok, Err, refl, sym, ap, ◌∙◌, subst, arith}
+use Rattle.std.proofs.Common.{◌≡◌, ℕ, zero, suc, pred, ◌+◌, ◌<◌, ◌≤◌, nat_lt, Bool, true, false, if◌then◌else◌, List, [], ◌∷◌, ◌++◌, map, length, Option, Some, None, Ok, Err, refl, sym, ap, ◌∙◌, subst, arith}
 use Rattle.al_base.specs.declared.place.Place.{Place}
 use Rattle.al_lex.specs.declared.kind.TokenKind.{TokenKind}
 use Rattle.al_lex.specs.declared.kind.TokenKind.TheVariants as k
@@ -8,7 +8,7 @@ use Rattle.al_tree.specs.Words.{start, scope_word}
 use Rattle.al_tree.specs.Types.{Leaves, with_name, with_names, name_at}
 use Rattle.al_tree.specs.Statements.{IsBlock}
 use Rattle.al_tree.specs.Items.{Declared, parameters_of, with_type, body_types, number_of}
-use Rattle.al_tree.specs.Reading.{Outcome, Parser, and_then, ◌>>=◌, ◌>>◌, pure, refuse, kind, same_kind, take_if, expect, expect_if}
+use Rattle.al_tree.specs.Reading.{Outcome, Parser, and_then, ◌>>=◌, ◌>>◌, refuse, kind, same_kind, take_if, expect_if}
 use Rattle.al_tree.specs.declared.cursor.ParseError.TheVariants.{NoMemory, Stuck, Deep}
 use Rattle.al_tree.specs.declared.expression.Name.{Name}
 use Rattle.al_tree.specs.declared.item.Scope.{Scope}
@@ -17,25 +17,22 @@ use Rattle.al_tree.specs.declared.item.AggregateKind.TheVariants as ag
 use Rattle.al_tree.specs.declared.item.Head.{Head}
 use Rattle.al_tree.specs.declared.item.Declarator.{Declarator}
 use Rattle.al_tree.specs.declared.item.Declarator.TheVariants as dec
-use Rattle.al_tree.specs.declared.item.Item.TheVariants as item
-use Rattle.al_tree.proofs.Law.{Any, head, kind_local, start_local}
+use Rattle.al_tree.proofs.Law.{Any, kind_local, start_local}
 use Rattle.al_tree.proofs.Verdicts.{world}
 use Rattle.al_parse_type.specs.declared.part.ReadBase.{ReadBase}
-use Rattle.al_parse_type.specs.Parse.{sees_other_name, other_name, bounds_from, stars_from}
+use Rattle.al_parse_type.specs.Parse.{sees_other_name, other_name, stars_from}
 use Rattle.al_parse_type.specs.Within.{base_within}
 use Rattle.al_parse_type.proofs.BoundLaw.{down_fits, lt_grows, lt_of, other_local}
 use Rattle.al_parse_block.specs.Parse.{block_within, within, block}
 use Rattle.al_parse_block.proofs.BlockLaw.{block_within_law}
-use Rattle.al_parse_member.specs.Parameters.{Parameters, parameter_list}
-use Rattle.al_parse_member.specs.Members.{enum_body, members_within, adt_body}
-use Rattle.al_parse_member.proofs.Steady.{Steady, Keeps, IsErr, Past, err_then, pure_steady, refuse_steady, bind_steady, map_steady, choose_steady, look_steady, fewer, anywhere, take_steady, one_steady, expect_steady, law_steady}
-use Rattle.al_parse_member.proofs.Past.{past_then, past_more, keeps_past}
+use Rattle.al_parse_member.proofs.Steady.{Steady, Keeps, IsErr, Past, err_then, pure_steady, bind_steady, choose_steady, look_steady, fewer, anywhere, take_steady, one_steady, expect_steady, law_steady}
+use Rattle.al_parse_member.proofs.Past.{past_more, keeps_past}
 use Rattle.al_parse_member.proofs.ParameterSteady.{above, ask_steady, base_steady, stars_steady, bounds_steady, other_name_steady, list_steady}
 use Rattle.al_parse_member.proofs.MemberSteady.{enum_steady, within_steady, body_steady}
-use Rattle.al_parse_stmt.specs.Heads.{SizedDeclarator, declarator, declarators_from}
+use Rattle.al_parse_stmt.specs.Heads.{SizedDeclarator, declarator}
 use Rattle.al_parse_stmt.specs.Ahead.{inside_of, owner_ahead, parameters_by}
 use Rattle.al_parse_stmt.specs.Parse as parse
-use Rattle.al_parse_stmt.specs.Parse.{ReadItem, built}
+use Rattle.al_parse_stmt.specs.Parse.{ReadItem}
 use Rattle.al_parse_stmt.proofs.HeadSteady.{new_names_steady, declarator_steady, declarators_steady}
 
 -- a semicolon or none

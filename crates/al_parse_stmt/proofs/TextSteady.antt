@@ -1,16 +1,15 @@
 -- The token that is unexpected in a text.
-use Rattle.std.proofs.Common.{◌≡◌, ◌≢◌, ℕ, zero, suc, pred, ◌+◌, ◌-◌, ◌<◌, ◌≤◌, ◌==◌, max, Bool, true, false, if◌then◌else◌, List, [], ◌∷◌, ◌++◌, map, length, slice_get, Option, Some, None, Ok, Err, ◌⊎◌, inl, inr, refl, sym, ap, ap₂, ◌∙◌, subst, arith, append_assoc, length-append}
-use Rattle.std.proofs.lemmas.Grind.{common_steps}
+use Rattle.std.proofs.Common.{◌≡◌, ◌≢◌, ℕ, zero, suc, pred, ◌+◌, ◌-◌, ◌<◌, ◌≤◌, ◌==◌, max, Bool, true, false, if◌then◌else◌, List, [], ◌∷◌, ◌++◌, length, slice_get, Some, Ok, Err, ◌⊎◌, inl, inr, refl, sym, ap, ap₂, ◌∙◌, subst, arith, append_assoc, length-append}
 use Rattle.al_lex.specs.declared.kind.TokenKind.TheVariants as k
 use Rattle.al_lex.specs.declared.token.Token.{Token}
 use Rattle.al_lex.specs.TokenList.{TokenList}
 use Rattle.al_tree.specs.Types.{Leaves}
 use Rattle.al_tree.specs.Leaves.{leaves_of}
-use Rattle.al_tree.specs.Items.{Declared, Parametrised, nothing_declared, IsItem, IsItems}
+use Rattle.al_tree.specs.Items.{Declared, nothing_declared, IsItem}
 use Rattle.al_tree.specs.Items as items
 use Rattle.al_tree.specs.Parts.{TokensFrom, place_of, count, fault_at, stop_of}
-use Rattle.al_tree.specs.Reading.{Outcome, Parser, and_then, kind, same_kind}
-use Rattle.al_tree.specs.Tree.{IsTreeOf, limit}
+use Rattle.al_tree.specs.Reading.{Outcome, Parser, and_then, kind}
+use Rattle.al_tree.specs.Tree.{IsTreeOf}
 use Rattle.al_tree.specs.declared.cursor.ParseError.{ParseError}
 use Rattle.al_tree.specs.declared.cursor.ParseError.TheVariants.{NoMemory, Stuck, Deep}
 use Rattle.al_tree.specs.declared.fault.ParseFault.{ParseFault}
@@ -18,10 +17,9 @@ use Rattle.al_tree.specs.declared.fault.ParseReason.TheVariants as reason
 use Rattle.al_tree.specs.declared.fault.ParseStop.TheVariants as stop
 use Rattle.al_tree.specs.declared.item.Item.{Item}
 use Rattle.al_tree.specs.declared.item.Tree.{Tree}
-use Rattle.al_tree.proofs.Law.{Any, head, some_pred}
-use Rattle.al_parse_member.proofs.Sound.{Sound}
-use Rattle.al_parse_member.proofs.Steady.{Keeps, same_head, IsErr, Past, Behind, behind, err_then}
-use Rattle.al_parse_member.proofs.Past.{past_then, past_more}
+use Rattle.al_tree.proofs.Law.{head, some_pred}
+use Rattle.al_parse_member.proofs.Steady.{Keeps, same_head, IsErr, Past, behind, err_then}
+use Rattle.al_parse_member.proofs.Past.{past_more}
 use Rattle.al_parse_stmt.specs.Calls.{NoParameters, IsNamed}
 use Rattle.al_parse_stmt.specs.Parse as parse
 use Rattle.al_parse_stmt.specs.Parse.{ReadItem}
