@@ -1,5 +1,5 @@
 -- Declarators at file level are read as what they are.
-use Rattle.std.proofs.Common.{◌≡◌, ℕ, suc, pred, ◌+◌, ◌<◌, ◌≤◌, max, nat_lt, true, false, List, [], ◌∷◌, ◌++◌, length, Some, None, Ok, Err, ◌⊎◌, inl, inr, refl, sym, ap, ◌∙◌, subst, arith, append_assoc, append-nil, length-append}
+use Rattle.std.proofs.Common.{◌≡◌, ℕ, suc, pred, ◌<◌, ◌≤◌, max, nat_lt, true, false, List, [], ◌∷◌, ◌++◌, length, Some, None, Ok, Err, ◌⊎◌, inl, inr, refl, sym, ap, ◌∙◌, subst, arith, append_assoc, append-nil, length-append}
 use Rattle.al_base.specs.declared.place.Place.{Place}
 use Rattle.al_lex.specs.declared.kind.TokenKind.{TokenKind}
 use Rattle.al_lex.specs.declared.kind.TokenKind.TheVariants as k
@@ -9,7 +9,7 @@ use Rattle.al_tree.specs.Types.{Leaves, known, with_names, name_at, IsTypeName, 
 use Rattle.al_tree.specs.Types as rules
 use Rattle.al_tree.specs.Items.{Declared, parameters_of, AreTypeNames, AreNewNames, IsParameterList, IsInitializer, IsHead, IsDeclarator, IsDeclarators}
 use Rattle.al_tree.specs.Items as items
-use Rattle.al_tree.specs.Reading.{Outcome, Parser, and_then, ◌>>=◌, ◌>>◌, kind, name_number, same_kind, take_if, expect_if}
+use Rattle.al_tree.specs.Reading.{Outcome, Parser, and_then, ◌>>=◌, kind, name_number, same_kind, take_if, expect_if}
 use Rattle.al_tree.specs.declared.expression.Name.{Name}
 use Rattle.al_tree.specs.declared.type_tree.Bound.{Bound}
 use Rattle.al_tree.specs.declared.type_tree.Dcl.{Dcl}

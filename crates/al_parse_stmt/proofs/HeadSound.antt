@@ -1,5 +1,5 @@
 -- What the parser of declarators at file level reads is a declarator.
-use Rattle.std.proofs.Common.{◌≡◌, ℕ, zero, suc, ◌+◌, max, nat_lt, true, false, if◌then◌else◌, List, [], ◌∷◌, ◌++◌, Some, None, Ok, refl, sym, ap, ◌∙◌, subst, arith, append_assoc, append-nil}
+use Rattle.std.proofs.Common.{◌≡◌, ℕ, zero, suc, max, nat_lt, true, false, if◌then◌else◌, List, [], ◌∷◌, ◌++◌, Some, None, Ok, refl, sym, ap, ◌∙◌, subst, append_assoc, append-nil}
 use Rattle.al_base.specs.declared.place.Place.{Place}
 use Rattle.al_lex.specs.declared.kind.TokenKind.TheVariants as k
 use Rattle.al_lex.specs.declared.token.Token.{Token}
@@ -7,7 +7,7 @@ use Rattle.al_tree.specs.Words.{start}
 use Rattle.al_tree.specs.Types.{Leaves, known, with_names, name_at, IsTypeName, type_name as is_type, IsOtherName, AreStars, IsDcl, dcl as is_dcl}
 use Rattle.al_tree.specs.Items.{Declared, parameters_of, AreTypeNames, AreNewNames, IsParameterList, IsDeclarator, IsDeclarators}
 use Rattle.al_tree.specs.Items as items
-use Rattle.al_tree.specs.Reading.{Parser, ◌>>=◌, ◌>>◌, pure, refuse, kind, name_number, same_kind, peek, here, take_if, expect}
+use Rattle.al_tree.specs.Reading.{Parser, ◌>>=◌, ◌>>◌, pure, refuse, kind, name_number, same_kind, peek, take_if, expect}
 use Rattle.al_tree.specs.declared.expression.Name.{Name}
 use Rattle.al_tree.specs.declared.type_tree.Bound.{Bound}
 use Rattle.al_tree.specs.declared.type_tree.Dcl.{Dcl}

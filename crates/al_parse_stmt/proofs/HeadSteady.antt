@@ -1,12 +1,12 @@
 -- The parsers of declarators at file level are steady.
-use Rattle.std.proofs.Common.{ℕ, zero, suc, pred, ◌+◌, ◌≤◌, max, nat_lt, if◌then◌else◌, List, [], ◌∷◌, ◌++◌, Some, None, arith}
+use Rattle.std.proofs.Common.{ℕ, zero, suc, pred, ◌≤◌, max, nat_lt, if◌then◌else◌, List, [], ◌∷◌, ◌++◌, Some, None, arith}
 use Rattle.al_base.specs.declared.place.Place.{Place}
 use Rattle.al_lex.specs.declared.kind.TokenKind.TheVariants as k
 use Rattle.al_lex.specs.declared.token.Token.{Token}
 use Rattle.al_tree.specs.Words.{start}
 use Rattle.al_tree.specs.Types.{Leaves, with_names, name_at}
 use Rattle.al_tree.specs.Items.{Declared, parameters_of}
-use Rattle.al_tree.specs.Reading.{◌>>=◌, ◌>>◌}
+use Rattle.al_tree.specs.Reading.{◌>>=◌}
 use Rattle.al_tree.specs.declared.expression.Name.{Name}
 use Rattle.al_tree.specs.declared.item.Owner.{Owner}
 use Rattle.al_tree.specs.declared.item.Declarator.{Declarator}

@@ -11,7 +11,7 @@ use Rattle.al_tree.specs.Statements.{IsBlock}
 use Rattle.al_tree.specs.Statements as g
 use Rattle.al_tree.specs.Items.{Declared, nothing_declared, with_type, with_adt, number_of, body_types, IsParameterList, IsEnumBody, IsScope, IsSemicolon, IsHead, IsDeclarators, IsItem, IsItems}
 use Rattle.al_tree.specs.Items as items
-use Rattle.al_tree.specs.Reading.{Outcome, Parser, and_then, ◌>>=◌, ◌>>◌, pure, kind, name_number, same_kind, take_if, expect_if}
+use Rattle.al_tree.specs.Reading.{Outcome, Parser, and_then, ◌>>=◌, pure, kind, name_number, same_kind, take_if, expect_if}
 use Rattle.al_tree.specs.declared.expression.Name.{Name}
 use Rattle.al_tree.specs.declared.type_tree.BasicType.{BasicType}
 use Rattle.al_tree.specs.declared.type_tree.TypeTree.{TypeTree}

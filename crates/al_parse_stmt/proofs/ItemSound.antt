@@ -1,5 +1,5 @@
 -- What the parser of items reads is an item, and what the parser of texts reads is a text's items.
-use Rattle.std.proofs.Common.{◌≡◌, ℕ, zero, suc, pred, ◌+◌, ◌<◌, max, nat_lt, Bool, true, false, if◌then◌else◌, List, [], ◌∷◌, ◌++◌, length, map, Option, Some, None, Ok, Err, refl, sym, ap, ◌∙◌, subst, arith, append_assoc, append-nil, length-append}
+use Rattle.std.proofs.Common.{◌≡◌, ℕ, zero, suc, pred, ◌<◌, max, nat_lt, Bool, true, false, if◌then◌else◌, List, [], ◌∷◌, ◌++◌, length, map, Option, Some, None, Ok, Err, refl, sym, ap, ◌∙◌, subst, arith, append_assoc, append-nil, length-append}
 use Rattle.al_base.specs.declared.place.Place.{Place}
 use Rattle.al_lex.specs.declared.kind.TokenKind.{TokenKind}
 use Rattle.al_lex.specs.declared.kind.TokenKind.TheVariants as k
@@ -9,7 +9,7 @@ use Rattle.al_tree.specs.Types.{Leaves, with_name, with_names, name_at, IsOtherN
 use Rattle.al_tree.specs.Statements.{IsBlock}
 use Rattle.al_tree.specs.Items.{Declared, with_type, with_adt, number_of, body_types, IsParameterList, IsAdtMembers, AreNewNames, IsScope, IsSemicolon, IsHead, IsDeclarator, IsDeclarators, IsItem, IsItems}
 use Rattle.al_tree.specs.Items as items
-use Rattle.al_tree.specs.Reading.{Outcome, Parser, and_then, ◌>>=◌, ◌>>◌, pure, refuse, kind, same_kind, take_if, expect}
+use Rattle.al_tree.specs.Reading.{Outcome, Parser, and_then, ◌>>=◌, pure, refuse, kind, same_kind, take_if, expect}
 use Rattle.al_tree.specs.declared.expression.Name.{Name}
 use Rattle.al_tree.specs.declared.type_tree.Dcl.{Dcl}
 use Rattle.al_tree.specs.declared.statement.Stmt.{Stmt}

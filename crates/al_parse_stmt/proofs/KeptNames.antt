@@ -1,5 +1,5 @@
 -- The names of types that were known before others were added stand in front of these.
-use Rattle.std.proofs.Common.{◌≡◌, ℕ, ◌+◌, Bool, true, false, if◌then◌else◌, List, [], ◌∷◌, ◌++◌, length, take, refl, sym, ap, ◌∙◌, arith, append_assoc, append-nil}
+use Rattle.std.proofs.Common.{◌≡◌, ℕ, Bool, true, false, if◌then◌else◌, List, [], ◌∷◌, ◌++◌, length, take, refl, sym, ap, ◌∙◌, append_assoc, append-nil}
 use Rattle.al_tree.specs.Types.{known, with_names}
 
 take_front : (xs ys : List ℕ) → take (length xs) (xs ++ ys) ≡ xs

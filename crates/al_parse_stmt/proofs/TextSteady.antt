@@ -8,7 +8,7 @@ use Rattle.al_tree.specs.Leaves.{leaves_of}
 use Rattle.al_tree.specs.Items.{Declared, nothing_declared, IsItem}
 use Rattle.al_tree.specs.Items as items
 use Rattle.al_tree.specs.Parts.{TokensFrom, place_of, count, fault_at, stop_of}
-use Rattle.al_tree.specs.Reading.{Outcome, Parser, and_then, kind}
+use Rattle.al_tree.specs.Reading.{Outcome, Parser, and_then}
 use Rattle.al_tree.specs.Tree.{IsTreeOf}
 use Rattle.al_tree.specs.declared.cursor.ParseError.{ParseError}
 use Rattle.al_tree.specs.declared.cursor.ParseError.TheVariants.{NoMemory, Stuck, Deep}

@@ -1,6 +1,6 @@
 -- Where the adt of a result's type is found. The parameters of the adt may stand as types before its name does, so the base type
 -- and the stars are passed by their brackets first.
-use Rattle.std.specs.Prelude.{ℕ, zero, suc, pred, Bool, true, false, if◌then◌else◌, List, [], ◌∷◌, ◌++◌, Ok, Err}
+use Rattle.std.specs.Prelude.{ℕ, zero, suc, pred, true, if◌then◌else◌, List, [], Ok, Err}
 use Rattle.al_lex.specs.declared.kind.TokenKind.{TokenKind}
 use Rattle.al_lex.specs.declared.kind.TokenKind.TheVariants as k
 use Rattle.al_lex.specs.declared.token.Token.{Token}

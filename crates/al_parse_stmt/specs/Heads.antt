@@ -1,5 +1,5 @@
 -- The parser of declarators at file level, on lists of tokens.
-use Rattle.std.specs.Prelude.{ℕ, zero, suc, ◌+◌, max, nat_lt, Bool, true, false, if◌then◌else◌, List, [], ◌∷◌, ◌++◌, Option, Some, None}
+use Rattle.std.specs.Prelude.{ℕ, zero, suc, max, nat_lt, true, if◌then◌else◌, List, [], ◌∷◌, ◌++◌, Option, Some, None}
 use Rattle.al_base.specs.declared.place.Place.{Place}
 use Rattle.al_lex.specs.declared.kind.TokenKind.TheVariants as k
 use Rattle.al_lex.specs.declared.token.Token.{Token}
@@ -8,7 +8,6 @@ use Rattle.al_tree.specs.Items.{Declared, parameters_of}
 use Rattle.al_tree.specs.Reading.{Parser, ◌>>=◌, ◌>>◌, pure, refuse, same_kind, looks, peek, here, take_if, expect}
 use Rattle.al_tree.specs.declared.expression.Name.{Name}
 use Rattle.al_tree.specs.declared.item.Owner.{Owner}
-use Rattle.al_tree.specs.declared.item.Head.{Head}
 use Rattle.al_tree.specs.declared.item.Declarator.{Declarator}
 use Rattle.al_tree.specs.declared.item.Declarator.TheVariants as dec
 use Rattle.al_parse_type.specs.Parse.{sees_type_name, other_name, bounds_from, stars_from}

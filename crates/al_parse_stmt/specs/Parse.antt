@@ -1,14 +1,14 @@
 -- The parser of items and of whole texts, on lists of tokens.
 --
 -- Loops make at most `turns` turns. An item has at most `depth + 1` levels; what stands in it has at most `depth`.
-use Rattle.std.specs.Prelude.{ℕ, zero, suc, ◌+◌, max, nat_lt, Bool, true, false, if◌then◌else◌, List, [], ◌∷◌, ◌++◌, map, Option, Some, None, is_some}
+use Rattle.std.specs.Prelude.{ℕ, zero, suc, ◌+◌, max, nat_lt, Bool, true, false, if◌then◌else◌, List, [], ◌∷◌, ◌++◌, map, Option, Some, None}
 use Rattle.al_base.specs.declared.place.Place.{Place}
 use Rattle.al_lex.specs.declared.kind.TokenKind.{TokenKind}
 use Rattle.al_lex.specs.declared.kind.TokenKind.TheVariants as k
 use Rattle.al_lex.specs.declared.token.Token.{Token}
-use Rattle.al_tree.specs.Words.{scope_word, plain_aggregate}
+use Rattle.al_tree.specs.Words.{scope_word}
 use Rattle.al_tree.specs.Types.{Leaves, with_name, with_names, name_at}
-use Rattle.al_tree.specs.Items.{Declared, nothing_declared, with_type, with_adt, body_types, number_of}
+use Rattle.al_tree.specs.Items.{Declared, nothing_declared, with_type, body_types, number_of}
 use Rattle.al_tree.specs.Reading.{Parser, ◌>>=◌, ◌>>◌, pure, refuse, same_kind, looks, peek, here, take_if, expect}
 use Rattle.al_tree.specs.declared.expression.Name.{Name}
 use Rattle.al_tree.specs.declared.item.Scope.{Scope}
