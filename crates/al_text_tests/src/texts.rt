@@ -121,3 +121,19 @@ fn two_hundred_levels_are_read_and_no_more(rt: HostRuntime) -> Result<(), Fail> 
     }
     Ok(())
 }
+
+/// An aggr and a function, in 128 bytes.
+const PIECE: &[u8] =
+    b"aggr T { int n; T *next; };\nint f(T*t,int i){int a[4];T*u;u=t;for(i=0;i<4;i++)a[i]=i*2+1;if(u->n==3)return a[2];return f(u,2);}\n";
+
+#[test]
+fn a_large_text_is_read(rt: HostRuntime) -> Result<(), Fail> {
+    let alloc = rt.alloc();
+    let mut text = Vec::new(alloc);
+    for _piece in 0..8_192 {
+        text.extend_from_slice(PIECE)?;
+    }
+    let found = answer(&rt, alloc, text.as_slice())?;
+    assert!(rt; found == Some(Ok(16_384)), "{found:?}");
+    Ok(())
+}
