@@ -1,0 +1,2 @@
+pub mod ListsAre
+pub mod NodesAre
