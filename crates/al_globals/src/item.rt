@@ -327,9 +327,9 @@ fn numbered_name(text: &[u8], names: &[Items<u8>]) -> Option<usize>
     names.iter().position(|name| name.as_slice() == text)
 }
 
-/// The number of main among the functions.
+/// The number of main among the functions outside of adts of a text: by the numbers of `Declaration::Function`.
 #[tactic(auto, unfolding(crate::specs::Globals::main_of))]
-fn main_of(names: &[Items<u8>], functions: &[Name]) -> Option<usize>
+pub fn main_of(names: &[Items<u8>], functions: &[Name]) -> Option<usize>
     ensures { result ≡ spec.main_of names.now functions.now }
 {
     let name = numbered_name(b"main".as_slice(), names);

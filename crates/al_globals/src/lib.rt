@@ -10,5 +10,5 @@ mod number;
 mod rules;
 
 pub use found::Found;
-pub use item::globals;
+pub use item::{globals, main_of};
 pub use number::numbers;

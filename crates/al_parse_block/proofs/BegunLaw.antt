@@ -338,10 +338,10 @@ module _ (leaves : Leaves) (types : List ℕ) where
   unfolding after_first
   first_paren_law n R w d fits o oc u x a =
       bind (all_turns fits (λ i w. more_from leaves types w.turns w.depth (expr_within leaves types w.turns w.depth) i (x.0 ∷ []) x.1)
-      (more_law leaves types n (λ R2 w2 d2 f2 x2 r2. within_law leaves types n R2 w2 d2 f2 x2 r2) (w.fuel ≤ w.turns) w.turns (record w { fuel = w.turns }) refl d (λ r. omega arith) (IsAsgs leaves types) (keeps_asgs leaves types) u (x.0 ∷ []) x.1 (one a))) (λ v xs l.
+      (more_law leaves types n (λ R' w2 d2 f2 x2 r2. within_law leaves types n R' w2 d2 f2 x2 r2) (w.fuel ≤ w.turns) w.turns (record w { fuel = w.turns }) refl d (λ r. omega arith) (IsAsgs leaves types) (keeps_asgs leaves types) u (x.0 ∷ []) x.1 (one a))) (λ v xs l.
       expect_law (λ w c. post_from leaves types w.turns w.depth (expr_within leaves types w.turns w.depth) w.turns o.place (operand (closed o.place xs).0 (closed o.place xs).1)) k.RightParen (λ c ec.
       relang (λ r z j. subst (λ q. LPost leaves types (o ∷ q) z) (append_assoc (u ++ v) (c ∷ []) r ∙ append_assoc u v (c ∷ r)) j)
-      (posts_law leaves types n (λ R2 w2 d2 f2 x2 r2. within_law leaves types n R2 w2 d2 f2 x2 r2) R w d fits (o ∷ ((u ++ v) ++ c ∷ [])) (operand (closed o.place xs).0 (closed o.place xs).1) o.place
+      (posts_law leaves types n (λ R' w2 d2 f2 x2 r2. within_law leaves types n R' w2 d2 f2 x2 r2) R w d fits (o ∷ ((u ++ v) ++ c ∷ [])) (operand (closed o.place xs).0 (closed o.place xs).1) o.place
       (operand_of leaves types (prim (closed_is leaves types o c oc l ec)) (ends_closed [] o (u ++ v) c k.RightParen ec refl)) refl)))
 
   pub paren_begun_law : (R : Type 0) (w : World) → (R → w.fuel ≤ w.turns) → (o : Token) → o.kind ≡ k.LeftParen → (u : List Token) (x : Sized) → IsAsg leaves types u x.0 x.1
@@ -394,9 +394,9 @@ module _ (leaves : Leaves) (types : List ℕ) where
 
   pub begun_law : (n : ℕ) (R : Type 0) (w : World) → w.depth ≡ n → (R → w.fuel ≤ w.turns) → Law R w Any (λ w. begun leaves types w.turns w.depth) LBegun
   begun_law zero R w d fits = view_law (λ w. w) (λ w' ab. ab) (λ w' ab d. d) (λ r. r) (λ r. omega arith) (λ w' ab ts. begun_is w'.turns w'.depth ts)
-      (at_law zero below (λ R2 w2 d2 f2 deep. record { run = λ r. absurd (let h : 0 < w2.depth = deep r in omega (arith, d2)); has = begun_has }) R w d fits)
+      (at_law zero below (λ R' w2 d2 f2 deep. record { run = λ r. absurd (let h : 0 < w2.depth = deep r in omega (arith, d2)); has = begun_has }) R w d fits)
   begun_law (suc n) R w d fits = view_law (λ w. w) (λ w' ab. ab) (λ w' ab d. d) (λ r. r) (λ r. omega arith) (λ w' ab ts. begun_is w'.turns w'.depth ts)
-      (at_law (suc n) below (λ R2 w2 d2 f2 deep.
+      (at_law (suc n) below (λ R' w2 d2 f2 deep.
       view_law lower (λ w' ab. lower_above w2 w' ab) (λ w' ab same. ap pred same) (λ r. r) (λ r. omega arith)
       (λ w' ab ts. ap (λ m. below w'.turns m ts) (some_pred w'.depth n (omega (arith, d2, ab.depth))))
-      (begun_law n R2 (lower w2) (ap pred d2) f2)) R w d fits)
+      (begun_law n R' (lower w2) (ap pred d2) f2)) R w d fits)

@@ -352,7 +352,7 @@ module _ (leaves : Leaves) (types : List ℕ) where
   within_law (suc n) R w d fits deep x =
       view_law lower (λ w' ab. lower_above w w' ab) (λ w' ab same. ap pred same) (λ r. r) (λ r. omega arith)
       (λ w' ab ts. ap (λ m. within leaves types w'.turns m x ts) (some_pred w'.depth n (omega (arith, d, ab.depth))))
-      (want_law leaves types n (λ R2 w2 d2 f2 p2 x2. within_law n R2 w2 d2 f2 p2 x2) R (lower w) (ap pred d) fits x)
+      (want_law leaves types n (λ R' w2 d2 f2 p2 x2. within_law n R' w2 d2 f2 p2 x2) R (lower w) (ap pred d) fits x)
 
   -- blocks, with their heights
   pub block_within_law : (R : Type 0) (w : World) → (R → w.fuel ≤ w.turns) → (R → 0 < w.depth) → Law R w Any (λ w. parse.block_within leaves types w.turns w.depth) (λ u x. IsBlock leaves types u x.0 x.1)

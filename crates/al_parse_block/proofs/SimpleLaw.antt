@@ -47,7 +47,7 @@ module _ (leaves : Leaves) (types : List ℕ) where
   asgs R w fits = within_law leaves types w.depth R w refl fits _ tt
 
   pub lists : (R : Type 0) (w : World) → (R → w.fuel ≤ w.turns) → Law R w Any (λ w. list_within leaves types w.turns w.depth) (LAsgs leaves types)
-  lists R w fits = listed_law leaves types w.depth (λ R2 w2 d2 f2 x2 r2. within_law leaves types w.depth R2 w2 d2 f2 x2 r2) R w refl fits
+  lists R w fits = listed_law leaves types w.depth (λ R' w2 d2 f2 x2 r2. within_law leaves types w.depth R' w2 d2 f2 x2 r2) R w refl fits
 
   abbrev nowhere : Place
   nowhere = start []
@@ -167,18 +167,18 @@ module _ (leaves : Leaves) (types : List ℕ) where
       → Law R w Any (λ w. parse.value_behind leaves types w.turns w.depth at x) (λ v y. LStmt leaves types (u ++ v) y)
   unfolding parse.value_behind
   value_behind_law R w fits u x at a p =
-      bind (lowered (expr_after_law leaves types (pred w.depth) (λ R2 w2 d2 f2 x2 r2. within_law leaves types (pred w.depth) R2 w2 d2 f2 x2 r2) R (lower w) refl fits u x at a p)) (λ v y b.
+      bind (lowered (expr_after_law leaves types (pred w.depth) (λ R' w2 d2 f2 x2 r2. within_law leaves types (pred w.depth) R' w2 d2 f2 x2 r2) R (lower w) refl fits u x at a p)) (λ v y b.
       expect_law (λ w t. pure (ended (sm.Value at y.0) (y.1 + 1))) k.Semicolon (λ t c.
       pure_law (ended (sm.Value at y.0) (y.1 + 1)) (value_is at t u v y b (start_of u v (asg_long leaves types a) ∙ p) c)))
 
   pub unary_behind_law : (R : Type 0) (w : World) → (R → w.fuel ≤ w.turns) → (u : List Token) (x : Sized) (at : Place) → IsUnary leaves types u x.0 x.1 → start u ≡ at
       → Law R w Any (λ w. after_unary leaves types w.turns (pred w.depth) at x) (λ v y. LAsg leaves types (u ++ v) y)
-  unary_behind_law R w fits u x at a p = lowered (asg_after_law leaves types (pred w.depth) (λ R2 w2 d2 f2 x2 r2. within_law leaves types (pred w.depth) R2 w2 d2 f2 x2 r2) R (lower w) refl fits u x at a p)
+  unary_behind_law R w fits u x at a p = lowered (asg_after_law leaves types (pred w.depth) (λ R' w2 d2 f2 x2 r2. within_law leaves types (pred w.depth) R' w2 d2 f2 x2 r2) R (lower w) refl fits u x at a p)
 
   pub value_named_law : (R : Type 0) (w : World) → (R → w.fuel ≤ w.turns) → (t : Token) → IsOtherName leaves types t → Law R w Any (λ w. parse.value_named leaves types w.turns w.depth t) (λ v y. LStmt leaves types (t ∷ v) y)
   unfolding parse.value_named
   value_named_law R w fits t c =
-      bind (lowered (posts_law leaves types (pred w.depth) (λ R2 w2 d2 f2 x2 r2. within_law leaves types (pred w.depth) R2 w2 d2 f2 x2 r2) R (lower w) refl fits (t ∷ []) (record { tree = e.Name t.place t.name; height = 1; called = 0 }) t.place (prim (name t c), called_name t c) refl)) (λ v x p.
+      bind (lowered (posts_law leaves types (pred w.depth) (λ R' w2 d2 f2 x2 r2. within_law leaves types (pred w.depth) R' w2 d2 f2 x2 r2) R (lower w) refl fits (t ∷ []) (record { tree = e.Name t.place t.name; height = 1; called = 0 }) t.place (prim (name t c), called_name t c) refl)) (λ v x p.
       bind (unary_behind_law R w fits (t ∷ v) x t.place (post p) refl) (λ v2 y q.
       relang (λ r z j. subst (λ l. LStmt leaves types (t ∷ l) z) (append_assoc v v2 r) j) (value_behind_law R w fits ((t ∷ v) ++ v2) y t.place q refl)))
 

@@ -619,4 +619,4 @@ module _ (leaves : Leaves) (types : List ℕ) where
   within_law (suc n) R w d fits x r =
       view_law lower (λ w' ab. lower_above w w' ab) (λ w' ab same. ap pred same) (λ r. r) (λ r. omega arith)
       (λ w' ab ts. ap (λ m. within leaves types w'.turns m x ts) (some_pred w'.depth n (omega (arith, ab.depth))))
-      (want_law leaves types n (λ R2 w2 d2 f2 x2 r2. within_law n R2 w2 d2 f2 x2 r2) R (lower w) (ap pred d) fits x r)
+      (want_law leaves types n (λ R' w2 d2 f2 x2 r2. within_law n R' w2 d2 f2 x2 r2) R (lower w) (ap pred d) fits x r)

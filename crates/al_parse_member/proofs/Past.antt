@@ -196,7 +196,7 @@ module _ (leaves : Leaves) (types : List ℕ) (turns : ℕ) where
   sub_shrinks zero h = record { run = λ ts s. tt }
   sub_shrinks (suc d) h = record {
     run = λ ts s. law_past (world turns (suc d)) (λ w. types_parse.sub_type leaves types w.turns w.depth (below leaves types w.turns w.depth) true) (LType leaves types true) tt
-        (sub_law leaves types (suc d) (λ R2 w2 e f p x. parts_law leaves types (suc d) R2 w2 e f p x) (Unit {0}) (world turns (suc d)) true refl (λ _. omega arith) (λ _. omega arith)) ts (omega (arith, s, h));
+        (sub_law leaves types (suc d) (λ R' w2 e f p x. parts_law leaves types (suc d) R' w2 e f p x) (Unit {0}) (world turns (suc d)) true refl (λ _. omega arith) (λ _. omega arith)) ts (omega (arith, s, h));
   }
 
   stars_shrinks : {F : ℕ} (m : ℕ) (at : Place) (x : ReadBase) → Shrinks F (types_parse.pointers_from m at x)

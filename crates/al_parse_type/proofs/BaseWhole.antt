@@ -34,27 +34,27 @@ module _ (leaves : Leaves) (types : List ℕ) where
   starred_place at = let h = base_place leaves types false at in record { word = h.word; value = (h.value.tree, h.value.height); is = record { takes = h.value.takes_bracket; is = base h.is.0 } }
 
   pub type_within_law : (R : Type 0) (w : World) (G : List Token → Type 0) → (R → w.fuel ≤ w.turns) → Law R w G (λ w. type_within leaves types w.turns w.depth) (LType leaves types true)
-  type_within_law R w G fits = type_law leaves types w.depth (λ R2 w2 d f p x. parts_law leaves types w.depth R2 w2 d f p x) R w true G refl fits
+  type_within_law R w G fits = type_law leaves types w.depth (λ R' w2 d f p x. parts_law leaves types w.depth R' w2 d f p x) R w true G refl fits
 
   pub base_within_law : (R : Type 0) (w : World) (G : List Token → Type 0) → (R → w.fuel ≤ w.turns) → Law R w G (λ w. base_within leaves types w.turns w.depth) (LBase leaves types true)
-  base_within_law R w G fits = base_law leaves types w.depth (λ R2 w2 d f p x. parts_law leaves types w.depth R2 w2 d f p x) R w true G refl fits
+  base_within_law R w G fits = base_law leaves types w.depth (λ R' w2 d f p x. parts_law leaves types w.depth R' w2 d f p x) R w true G refl fits
 
   pub starred_within_law : (R : Type 0) (w : World) (G : List Token → Type 0) → (R → w.fuel ≤ w.turns) → Law R w G (λ w. starred_within leaves types w.turns w.depth) LStarredType
   unfolding parse.starred_at
   starred_within_law R w G fits = look start start_local (λ w at. parse.base_at leaves types w.turns w.depth (below leaves types w.turns w.depth) false >>= (λ x. pointers_from w.turns at x >>= (λ y. pure (y.tree, y.height)))) (starred_place (start []))
-      (λ at. bind (located at (λ u x a. base_long leaves types a) (base_place leaves types false at) (base_law leaves types w.depth (λ R2 w2 d f p x. parts_law leaves types w.depth R2 w2 d f p x) R w false G refl fits))
+      (λ at. bind (located at (λ u x a. base_long leaves types a) (base_place leaves types false at) (base_law leaves types w.depth (λ R' w2 d f p x. parts_law leaves types w.depth R' w2 d f p x) R w false G refl fits))
       (λ u x a. map_law (λ y. (y.tree, y.height)) (all_turns fits (λ i w. pointers_from i at x) (pointers_law leaves types (w.fuel ≤ w.turns) false w.turns (record w { fuel = w.turns }) refl u x at (base a.0) a.1))
       (λ v y b. record { takes = y.takes_bracket; is = b })))
 
   -- behind "(" and a first part
   pub tuple_within_law : (R : Type 0) (w : World) → (R → w.fuel ≤ w.turns) → (R → 0 < w.depth) → (o : Token) → o.kind ≡ k.LeftParen → (u : List Token) (x : SizedType) → LType leaves types true u x
       → Law R w Any (λ w. tuple_within leaves types w.turns w.depth o.place x) (λ v y. LBase leaves types true (o ∷ (u ++ v)) y)
-  tuple_within_law R w fits deep o oc u x a = tuple_law leaves types w.depth (λ R2 w2 d f p y. parts_law leaves types w.depth R2 w2 d f p y) R w true true refl fits deep (o ∷ []) o.place (λ c u2 xs h b ec. bare_tuple o c oc b ec) u x a
+  tuple_within_law R w fits deep o oc u x a = tuple_law leaves types w.depth (λ R' w2 d f p y. parts_law leaves types w.depth R' w2 d f p y) R w true true refl fits deep (o ∷ []) o.place (λ c u2 xs h b ec. bare_tuple o c oc b ec) u x a
 
   -- behind a base type
   pub type_behind_law : (R : Type 0) (w : World) → (R → w.fuel ≤ w.turns) → (u : List Token) (x : ReadBase) (at : Place) → LBase leaves types true u x → start u ≡ at
       → Law R w Any (λ w. type_behind leaves types w.turns w.depth at x) (λ v y. LType leaves types true (u ++ v) y)
-  type_behind_law R w fits u x at a s = after_law leaves types w.depth (λ R2 w2 d f p y. parts_law leaves types w.depth R2 w2 d f p y) R w true fits u x at a s
+  type_behind_law R w fits u x at a s = after_law leaves types w.depth (λ R' w2 d f p y. parts_law leaves types w.depth R' w2 d f p y) R w true fits u x at a s
 
 module _ (leaves : Leaves) (types : List ℕ) (F : ℕ) where
   -- ---- steps

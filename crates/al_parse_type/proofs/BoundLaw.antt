@@ -237,12 +237,12 @@ module _ (leaves : Leaves) (types : List ℕ) where
   below_law (suc n) R w d fits deep =
       view_law lower (λ w' ab. lower_above w w' ab) (λ w' ab same. ap pred same) (λ r. r) (λ r. omega arith)
       (λ w' ab ts. ap (λ m. bound_below leaves types w'.turns m ts) (some_pred w'.depth n (omega (arith, ab.depth))))
-      (bound_at_law leaves types n (λ R2 w2 d2 f2 p2. below_law n R2 w2 d2 f2 p2) R (lower w) (ap pred d) fits)
+      (bound_at_law leaves types n (λ R' w2 d2 f2 p2. below_law n R' w2 d2 f2 p2) R (lower w) (ap pred d) fits)
 
   -- a bound of at most the world's levels
   pub bound_law : (R : Type 0) (w : World) → (R → w.fuel ≤ w.turns) → Law R w Any (λ w. bound leaves types w.turns w.depth) (LBound leaves types)
   unfolding bound
-  bound_law R w fits = bound_at_law leaves types w.depth (λ R2 w2 d2 f2 p2. below_law w.depth R2 w2 d2 f2 p2) R w refl fits
+  bound_law R w fits = bound_at_law leaves types w.depth (λ R' w2 d2 f2 p2. below_law w.depth R' w2 d2 f2 p2) R w refl fits
 
   -- the same with one level more than the world has
   pub higher_bound_law : (R : Type 0) (w : World) → (R → w.fuel ≤ w.turns) → Law R w Any (λ w. bound leaves types w.turns (w.depth + 1)) (LBound leaves types)
@@ -251,7 +251,7 @@ module _ (leaves : Leaves) (types : List ℕ) where
   pub higher_after_law : (R : Type 0) (w : World) → (R → w.fuel ≤ w.turns) → (u : List Token) (x : SizedBound) (at : Place) → IsBoundTerm leaves types u x.0 x.1 → start u ≡ at
       → Law R w Any (λ w. parse.bound_after leaves types w.turns (w.depth + 1) (bound_below leaves types w.turns (w.depth + 1)) at x) (λ v y. IsBound leaves types (u ++ v) y.0 y.1)
   higher_after_law R w fits u x at a s = view_law higher (λ w' ab. higher_above w w' ab) (λ w' ab same. ap (λ m. m + 1) same) (λ r. r) (λ r. omega arith) (λ w' ab ts. refl)
-      (bound_after_law leaves types (w.depth + 1) (λ R2 w2 d2 f2 p2. below_law (w.depth + 1) R2 w2 d2 f2 p2) R (higher w) refl fits u x at a s)
+      (bound_after_law leaves types (w.depth + 1) (λ R' w2 d2 f2 p2. below_law (w.depth + 1) R' w2 d2 f2 p2) R (higher w) refl fits u x at a s)
 
   -- ---- bounds in brackets, stars, declarators
 

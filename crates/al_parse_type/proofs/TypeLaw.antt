@@ -538,4 +538,4 @@ module _ (leaves : Leaves) (types : List ℕ) where
   parts_law (suc n) R w d fits deep x =
       view_law lower (λ w' ab. lower_above w w' ab) (λ w' ab same. ap pred same) (λ r. r) (λ r. omega arith)
       (λ w' ab ts. ap (λ m. below leaves types w'.turns m x ts) (some_pred w'.depth n (omega (arith, ab.depth))))
-      (want_law leaves types n (λ R2 w2 d2 f2 p2 x2. parts_law n R2 w2 d2 f2 p2 x2) R (lower w) (ap pred d) fits x)
+      (want_law leaves types n (λ R' w2 d2 f2 p2 x2. parts_law n R' w2 d2 f2 p2 x2) R (lower w) (ap pred d) fits x)

@@ -1,10 +1,10 @@
 -- What is done with places: how they are read, assigned and changed, and what makes a place.
-use Rattle.std.specs.Prelude.{Bool, true, false, if◌then◌else◌, List, [], ◌∷◌, ◌++◌, Option, Some, None}
+use Rattle.std.specs.Prelude.{Bool, true, false, if◌then◌else◌, List, ◌++◌, Option, Some, None}
 use Rattle.std.specs.Option.{unwrap_or}
 use Rattle.al_base.specs.declared.arith.Kind.{Kind}
 use Rattle.al_base.specs.declared.arith.Kind.TheVariants as kind
 use Rattle.al_base.specs.declared.place.Place.{Place}
-use Rattle.al_rules.specs.Outcome.{Outcome, Good, Bad, ask, judge, and_then}
+use Rattle.al_rules.specs.Outcome.{Outcome, Bad, ask, judge, and_then}
 use Rattle.al_tree.specs.declared.expression.BinaryOp.{BinaryOp as Written}
 use Rattle.al_tree.specs.declared.expression.BinaryOp.TheVariants as written
 use Rattle.al_typed.specs.declared.program.Aggregate.{Aggregate}

@@ -103,24 +103,24 @@ module _ (K : Kind) (P : Propriety K.Control K.Privates) (S : StaysProper K P) w
 -- ---- what an effect tells
 
 module _ {C : Type 0} (s : Shared) (T : TaskName → Held C) (t : TaskName) (act : Act) (c d : C) (sound : Sound s.procs s.book.waiting s.started T) (first : (p : ℕ) (q : ProcState TaskName) → slice_get (loses_first t.proc s.procs) p ≡ Some q → (u : TaskName) → q.parent ≡ Some u → IsJoining (T u)) (going : T t ≡ Goes c) (q : FitIn s s.entries) (room : s.entries + 1 < 2 ^ 32) where
-  abbrev T1 : TaskName → Held C
-  T1 = at_task t (Waits act d) T
+  abbrev T' : TaskName → Held C
+  T' = at_task t (Waits act d) T
 
-  changed : Changed T T1 t (Waits act d)
+  changed : Changed T T' t (Waits act d)
   changed = set_changed T t (Waits act d)
 
-  waits : T1 t ≡ Waits act d
-  waits = changed_here T T1 t _ changed
+  waits : T' t ≡ Waits act d
+  waits = changed_here T T' t _ changed
 
   -- an answer to the task that asked
-  fit_own : (words : List ℕ) → fitted act words ≡ words → IsFit T1 (t, Answered words)
+  fit_own : (words : List ℕ) → fitted act words ≡ words → IsFit T' (t, Answered words)
   fit_own words e a x w = let same : act ≡ a = the_act act a d x (sym waits ∙ w) in subst (λ a. fitted a words ≡ words) same e
     where
       the_act : (a b : Act) (x y : C) → Waits a x ≡ Waits b y → a ≡ b
       the_act a b x y e = cc
 
   record TellsFit (e : Effect) : Type 0 where
-    told : AllByRecursion (IsFit T1) e.told
+    told : AllByRecursion (IsFit T') e.told
 
   tells_none : (x : Shared) → TellsFit (record { shared = x; told = [] })
   tells_none x = record { told = tt }
@@ -140,7 +140,7 @@ module _ {C : Type 0} (s : Shared) (T : TaskName → Held C) (t : TaskName) (act
   one_word : (m word : ℕ) → word < m → cut 1 m (word ∷ []) ≡ word ∷ []
   one_word m word lt = cut_same 1 m (word ∷ []) refl (lt, tt)
 
-  begins_fit : (p : ℕ) (starts : List Start) → AllByRecursion (IsFit T1) (begins_from p starts)
+  begins_fit : (p : ℕ) (starts : List Start) → AllByRecursion (IsFit T') (begins_from p starts)
   begins_fit p [] = tt
   begins_fit p (x ∷ xs) = (tt, begins_fit (p + 1) xs)
 
@@ -165,9 +165,9 @@ module _ {C : Type 0} (s : Shared) (T : TaskName → Held C) (t : TaskName) (act
 
   -- ---- ends
 
-  joined_fit : (u : TaskName) → IsJoining (T u) → IsFit T1 (u, Answered [])
+  joined_fit : (u : TaskName) → IsJoining (T u) → IsFit T' (u, Answered [])
   joined_fit u j a x w =
-      let k : IsJoining (T1 u) = kept IsJoining T T1 t u _ changed (λ j. let y = j.is in cc) j in
+      let k : IsJoining (T' u) = kept IsJoining T T' t u _ changed (λ j. let y = j.is in cc) j in
       let same : Par k.starts ≡ a = the_act (Par k.starts) a k.control x (sym k.is ∙ w) in
       subst (λ a. fitted a [] ≡ []) same refl
     where
@@ -175,7 +175,7 @@ module _ {C : Type 0} (s : Shared) (T : TaskName → Held C) (t : TaskName) (act
       the_act a b x y e = cc
 
   abbrev EndFits : Ended TaskName → Type 0
-  EndFits e = AllByRecursion (IsFit T1) (join_told e.woke)
+  EndFits e = AllByRecursion (IsFit T') (join_told e.woke)
 
   end_if : (b : Bool) (x y : Ended TaskName) → EndFits x → EndFits y → EndFits (cond b x y)
   end_if true x y h k = h
@@ -193,13 +193,13 @@ module _ {C : Type 0} (s : Shared) (T : TaskName → Held C) (t : TaskName) (act
 
   -- ---- talks
 
-  woken_fit : (o : Option (Woken TalkName)) → WokeOk s.book.waiting o → AllByRecursion (IsFit T1) (wake_told o)
+  woken_fit : (o : Option (Woken TalkName)) → WokeOk s.book.waiting o → AllByRecursion (IsFit T') (wake_told o)
   woken_fit None h = tt
   woken_fit (Some w) h = (here, tt)
     where
-      talks : IsTalking h.chosen (T1 h.chosen.by.task)
+      talks : IsTalking h.chosen (T' h.chosen.by.task)
       talks =
-          kept (IsTalking h.chosen) T T1 t h.chosen.by.task _ changed (λ j. let y = j.is in cc) (all_at (λ (o : Offer TalkName). IsTalking o (T o.by.task)) s.book.waiting h.chosen sound.waiting h.waits)
+          kept (IsTalking h.chosen) T T' t h.chosen.by.task _ changed (λ j. let y = j.is in cc) (all_at (λ (o : Offer TalkName). IsTalking o (T o.by.task)) s.book.waiting h.chosen sound.waiting h.waits)
 
       the_act : (a b : Act) (x y : C) → Waits a x ≡ Waits b y → a ≡ b
       the_act a b x y e = cc
@@ -207,11 +207,11 @@ module _ {C : Type 0} (s : Shared) (T : TaskName → Held C) (t : TaskName) (act
       fits : fitted (Talk talks.branches) (h.chosen.number ∷ w.words) ≡ h.chosen.number ∷ w.words
       fits = fit_talk talks.branches h.chosen.number h.chosen.branch w.words talks.at h.words
 
-      there : (a : Act) (x : C) → T1 h.chosen.by.task ≡ Waits a x → fitted a (h.chosen.number ∷ w.words) ≡ h.chosen.number ∷ w.words
+      there : (a : Act) (x : C) → T' h.chosen.by.task ≡ Waits a x → fitted a (h.chosen.number ∷ w.words) ≡ h.chosen.number ∷ w.words
       there a x e = let same : Talk talks.branches ≡ a = the_act _ a talks.control x (sym talks.is ∙ e) in subst (λ a. fitted a (h.chosen.number ∷ w.words) ≡ h.chosen.number ∷ w.words) same fits
 
-      here : (a : Act) (x : C) → T1 w.by.task ≡ Waits a x → fitted a (w.branch ∷ w.words) ≡ w.branch ∷ w.words
-      here = subst₂ (λ (n : TalkName) k. (a : Act) (x : C) → T1 n.task ≡ Waits a x → fitted a (k ∷ w.words) ≡ k ∷ w.words) (sym h.by) (sym h.branch) there
+      here : (a : Act) (x : C) → T' w.by.task ≡ Waits a x → fitted a (w.branch ∷ w.words) ≡ w.branch ∷ w.words
+      here = subst₂ (λ (n : TalkName) k. (a : Act) (x : C) → T' n.task ≡ Waits a x → fitted a (k ∷ w.words) ≡ k ∷ w.words) (sym h.by) (sym h.branch) there
 
   tells_talks : (bs : List Branch) (pick : ℕ) → IsProper (Talk bs) → act ≡ Talk bs → IfSome' TellsFit (performs s t (Talk bs) pick)
   tells_talks bs pick p e =

@@ -39,10 +39,10 @@ set_changed T t h = record { at = λ v. on v (same_task v t) (same_task_tells v 
     on v true (inr e) = absurd (let a = e.0 in cc)
     on v false (inl e) = absurd (let a = e.0 in cc)
 
-two_changed : {C : Type 0} (T T1 T2 : TaskName → Held C) (t : TaskName) (h k : Held C) → Changed T T1 t h → Changed T1 T2 t k → Changed T T2 t k
-two_changed T T1 T2 t h k c d = record { at = λ v. on v (d.at v) (c.at v) }
+two_changed : {C : Type 0} (T T' T2 : TaskName → Held C) (t : TaskName) (h k : Held C) → Changed T T' t h → Changed T' T2 t k → Changed T T2 t k
+two_changed T T' T2 t h k c d = record { at = λ v. on v (d.at v) (c.at v) }
   where
-    on : (v : TaskName) → ((v ≡ t) × (T2 v ≡ k)) ⊎ ((v ≢ t) × (T2 v ≡ T1 v)) → ((v ≡ t) × (T1 v ≡ h)) ⊎ ((v ≢ t) × (T1 v ≡ T v)) → ((v ≡ t) × (T2 v ≡ k)) ⊎ ((v ≢ t) × (T2 v ≡ T v))
+    on : (v : TaskName) → ((v ≡ t) × (T2 v ≡ k)) ⊎ ((v ≢ t) × (T2 v ≡ T' v)) → ((v ≡ t) × (T' v ≡ h)) ⊎ ((v ≢ t) × (T' v ≡ T v)) → ((v ≡ t) × (T2 v ≡ k)) ⊎ ((v ≢ t) × (T2 v ≡ T v))
     on v (inl e) f = inl e
     on v (inr e) (inl f) = absurd (e.0 f.0)
     on v (inr e) (inr f) = inr (e.0, e.1 ∙ f.1)
@@ -141,24 +141,24 @@ module _ (K : Kind) where
       subst (λ l. Sound l ws (counts_from (length procs + 1) xs (at_proc (length procs) 1 started)) (told K (begins_from (length procs + 1) xs) T2)) (append_assoc procs (new_proc parent t ∷ []) _) r'
 
   module _ (s : Shared) (T : Tasks) (t : TaskName) (act : Act) (c d : K.Control) (sound : Sound s.procs s.book.waiting s.started T) (q : ProcState TaskName) (rest : List TaskName) (at : slice_get s.procs t.proc ≡ Some q) (is : q.ready ≡ t ∷ rest) (going : T t ≡ Goes c) where
-    abbrev T1 : Tasks
-    T1 = at_task t (Waits act d) T
+    abbrev T' : Tasks
+    T' = at_task t (Waits act d) T
 
-    waits : T1 t ≡ Waits act d
-    waits = changed_here T T1 t _ (set_changed T t (Waits act d))
+    waits : T' t ≡ Waits act d
+    waits = changed_here T T' t _ (set_changed T t (Waits act d))
 
     record Good (e : Effect) : Type 0 where
-      good : e.shared.over ≡ None → Sound e.shared.procs e.shared.book.waiting e.shared.started (told K e.told T1)
+      good : e.shared.over ≡ None → Sound e.shared.procs e.shared.book.waiting e.shared.started (told K e.told T')
 
     -- the task after its answer
-    answered : (words : List ℕ) → Sound s.procs s.book.waiting s.started (at_task t (told_one K (Answered words) (T1 t)) T1)
+    answered : (words : List ℕ) → Sound s.procs s.book.waiting s.started (at_task t (told_one K (Answered words) (T' t)) T')
     answered words =
-        let T2 : Tasks = at_task t (told_one K (Answered words) (T1 t)) T1 in
-        goes_again s.procs s.book.waiting s.started T T2 sound t c (K.resume d (fitted act words)) (two_changed T T1 T2 t _ _ (set_changed T t (Waits act d)) (told_changed T1 t words act d waits)) going
+        let T2 : Tasks = at_task t (told_one K (Answered words) (T' t)) T' in
+        goes_again s.procs s.book.waiting s.started T T2 sound t c (K.resume d (fitted act words)) (two_changed T T' T2 t _ _ (set_changed T t (Waits act d)) (told_changed T' t words act d waits)) going
 
     good_answer : (x : Shared) (words : List ℕ) → s.procs ≡ x.procs → s.book.waiting ≡ x.book.waiting → s.started ≡ x.started → Good (record { shared = x; told = (t, Answered words) ∷ [] })
     good_answer x words p w n = record {
-      good = λ o. subst (λ l. Sound x.procs x.book.waiting l (at_task t (told_one K (Answered words) (T1 t)) T1)) n (subst₂ (λ a b. Sound a b s.started (at_task t (told_one K (Answered words) (T1 t)) T1)) p w (answered words));
+      good = λ o. subst (λ l. Sound x.procs x.book.waiting l (at_task t (told_one K (Answered words) (T' t)) T')) n (subst₂ (λ a b. Sound a b s.started (at_task t (told_one K (Answered words) (T' t)) T')) p w (answered words));
     }
 
     good_trapped : (o : Over) → Good (ended_by s o)
@@ -177,12 +177,12 @@ module _ (K : Kind) where
     good_goes f w = record { good = λ e. on f.woke f.book.waiting w.withdrawn }
       where
         T2 : Tasks
-        T2 = at_task t (told_one K (Answered (f.branch ∷ f.words)) (T1 t)) T1
+        T2 = at_task t (told_one K (Answered (f.branch ∷ f.words)) (T' t)) T'
 
         c2 : Changed T T2 t (Goes (K.resume d (fitted act (f.branch ∷ f.words))))
-        c2 = two_changed T T1 T2 t _ _ (set_changed T t (Waits act d)) (told_changed T1 t _ act d waits)
+        c2 = two_changed T T' T2 t _ _ (set_changed T t (Waits act d)) (told_changed T' t _ act d waits)
 
-        on : (o : Option (Woken TalkName)) (now : Offers) → Withdrawn s.book.waiting o now → Sound (wakes o s.procs) now s.started (told K ((t, Answered (f.branch ∷ f.words)) ∷ wake_told o) T1)
+        on : (o : Option (Woken TalkName)) (now : Offers) → Withdrawn s.book.waiting o now → Sound (wakes o s.procs) now s.started (told K ((t, Answered (f.branch ∷ f.words)) ∷ wake_told o) T')
         on None now e = subst (λ l. Sound s.procs l s.started T2) (sym e) (answered (f.branch ∷ f.words))
         on (Some w) now h =
             let o = h.0 in
@@ -196,14 +196,14 @@ module _ (K : Kind) where
             subst (λ l. Sound (joins_ready w.by.task.proc w.by.task s.procs) l s.started (at_task w.by.task (told_one K (Answered (w.branch ∷ w.words)) (T2 w.by.task)) T2)) (sym h.3) here
 
     -- it leaves its ready list and waits
-    left : (f : ProcState TaskName → ProcState TaskName) → ((q : ProcState TaskName) → (f q).parent ≡ q.parent) → ((q : ProcState TaskName) → (f q).ready ≡ drop 1 q.ready) → Sound (changed_at t.proc f s.procs) s.book.waiting s.started T1
-    left f p r = leaves_list s.procs s.book.waiting s.started T T1 sound t.proc t rest q act d f at is (set_changed T t (Waits act d)) p r
+    left : (f : ProcState TaskName → ProcState TaskName) → ((q : ProcState TaskName) → (f q).parent ≡ q.parent) → ((q : ProcState TaskName) → (f q).ready ≡ drop 1 q.ready) → Sound (changed_at t.proc f s.procs) s.book.waiting s.started T'
+    left f p r = leaves_list s.procs s.book.waiting s.started T T' sound t.proc t rest q act d f at is (set_changed T t (Waits act d)) p r
 
     good_waits_for : (bs : List Branch) → act ≡ Talk bs → Good (waits_for s t bs)
     good_waits_for bs e = record {
       good = λ o. let x = left (λ q. record q { ready = drop 1 q.ready }) (λ q. refl) (λ q. refl) in record {
         procs = x.procs;
-        waiting = all_append _ s.book.waiting _ x.waiting (talking_all T1 (talk_of s t) bs d (waits ∙ ap (λ a. Waits a d) e) bs [] refl);
+        waiting = all_append _ s.book.waiting _ x.waiting (talking_all T' (talk_of s t) bs d (waits ∙ ap (λ a. Waits a d) e) bs [] refl);
         absent = x.absent;
         unstarted = x.unstarted;
       };
@@ -216,7 +216,7 @@ module _ (K : Kind) where
     good_task start = record {
       good = λ o.
           let sound2 = answered [] in
-          let T2 : Tasks = at_task t (told_one K (Answered []) (T1 t)) T1 in
+          let T2 : Tasks = at_task t (told_one K (Answered []) (T' t)) T' in
           let none : T2 (next_task s t.proc) ≡ Absent = sound2.absent (next_task s t.proc) (le_refl _) in
           one_more_task s.procs s.book.waiting s.started T2 _ sound2 t.proc q (K.start start) at (begun_changed T2 (next_task s t.proc) start none);
     }
@@ -227,40 +227,40 @@ module _ (K : Kind) where
         procs1 : Procs
         procs1 = changed_at t.proc (λ (q : ProcState TaskName). record q { ready = drop 1 q.ready }) s.procs
 
-        joins1 : (u : TaskName) → Some t ≡ Some u → IsJoining (T1 u)
-        joins1 u y = subst (λ v. IsJoining (T1 v)) (same_Some t u y) (record { starts = starts; control = d; is = waits ∙ ap (λ a. Waits a d) e })
+        joins1 : (u : TaskName) → Some t ≡ Some u → IsJoining (T' u)
+        joins1 u y = subst (λ v. IsJoining (T' v)) (same_Some t u y) (record { starts = starts; control = d; is = waits ∙ ap (λ a. Waits a d) e })
 
-        on : (n : ℕ) → n ≡ length procs1 → Sound (procs1 ++ procs_from (Some t) (length procs1) starts) s.book.waiting (counts_from (length procs1) starts s.started) (told K (begins_from n starts) T1)
-        on n e = subst (λ n. Sound (procs1 ++ procs_from (Some t) (length procs1) starts) s.book.waiting (counts_from (length procs1) starts s.started) (told K (begins_from n starts) T1)) (sym e) (more_procs (Some t) starts procs1 s.book.waiting s.started T1 (left (λ q. record q { ready = drop 1 q.ready }) (λ q. refl) (λ q. refl)) joins1)
+        on : (n : ℕ) → n ≡ length procs1 → Sound (procs1 ++ procs_from (Some t) (length procs1) starts) s.book.waiting (counts_from (length procs1) starts s.started) (told K (begins_from n starts) T')
+        on n e = subst (λ n. Sound (procs1 ++ procs_from (Some t) (length procs1) starts) s.book.waiting (counts_from (length procs1) starts s.started) (told K (begins_from n starts) T')) (sym e) (more_procs (Some t) starts procs1 s.book.waiting s.started T' (left (λ q. record q { ready = drop 1 q.ready }) (λ q. refl) (λ q. refl)) joins1)
 
     -- where the world is sound with this task waiting, and a proc ended that u waited for
     abbrev AfterEnd : Ended TaskName → Type 0
-    AfterEnd e = Sound e.procs s.book.waiting s.started (told K (join_told e.woke) T1)
+    AfterEnd e = Sound e.procs s.book.waiting s.started (told K (join_told e.woke) T')
 
     end_if : (b : Bool) (x y : Ended TaskName) → (b ≡ true → AfterEnd x) → (b ≡ false → AfterEnd y) → AfterEnd (cond b x y)
     end_if true x y h k = h refl
     end_if false x y h k = k refl
 
-    good_joins : (procs : Procs) → Sound procs s.book.waiting s.started T1 → (o : Option TaskName) → ((u : TaskName) → o ≡ Some u → IsJoining (T1 u)) → AfterEnd (joins same_task (λ (u : TaskName). u.proc) procs o)
+    good_joins : (procs : Procs) → Sound procs s.book.waiting s.started T' → (o : Option TaskName) → ((u : TaskName) → o ≡ Some u → IsJoining (T' u)) → AfterEnd (joins same_task (λ (u : TaskName). u.proc) procs o)
     good_joins procs sx None j = sx
     good_joins procs sx (Some u) j =
         end_if (has_branches same_task (λ (u : TaskName). u.proc) u procs) (record { procs = procs; proc_ended = true; woke = None }) (record { procs = joins_ready u.proc u procs; proc_ended = true; woke = Some u }) (λ _. sx) joined
       where
-        joining : IsJoining (T1 u)
+        joining : IsJoining (T' u)
         joining = j u refl
 
-        others : (ws : Offers) → AllByRecursion (λ (o : Offer TalkName). IsTalking o (T1 o.by.task)) ws → AllByRecursion (λ (o : Offer TalkName). o.by.task ≢ u) ws
+        others : (ws : Offers) → AllByRecursion (λ (o : Offer TalkName). IsTalking o (T' o.by.task)) ws → AllByRecursion (λ (o : Offer TalkName). o.by.task ≢ u) ws
         others [] h = tt
-        others (o ∷ os) h = ((λ e. let a = h.0.is in let b = joining.is in let y = ap T1 e in cc), others os h.1)
+        others (o ∷ os) h = ((λ e. let a = h.0.is in let b = joining.is in let y = ap T' e in cc), others os h.1)
 
-        joined : has_branches same_task (λ (u : TaskName). u.proc) u procs ≡ false → Sound (joins_ready u.proc u procs) s.book.waiting s.started (told K ((u, Answered []) ∷ []) T1)
+        joined : has_branches same_task (λ (u : TaskName). u.proc) u procs ≡ false → Sound (joins_ready u.proc u procs) s.book.waiting s.started (told K ((u, Answered []) ∷ []) T')
         joined h =
-            wakes_up procs s.book.waiting s.started T1 _ sx u (Par joining.starts) joining.control _ s.book.waiting joining.is (told_changed T1 u [] (Par joining.starts) joining.control joining.is) (no_children u procs h) sx.waiting (others s.book.waiting sx.waiting)
+            wakes_up procs s.book.waiting s.started T' _ sx u (Par joining.starts) joining.control _ s.book.waiting joining.is (told_changed T' u [] (Par joining.starts) joining.control joining.is) (no_children u procs h) sx.waiting (others s.book.waiting sx.waiting)
 
-    good_ends_proc : (procs : Procs) → Sound procs s.book.waiting s.started T1 → (o : Option (ProcState TaskName)) → slice_get procs t.proc ≡ o → AfterEnd (ends_proc same_task (λ (u : TaskName). u.proc) procs t.proc o)
+    good_ends_proc : (procs : Procs) → Sound procs s.book.waiting s.started T' → (o : Option (ProcState TaskName)) → slice_get procs t.proc ≡ o → AfterEnd (ends_proc same_task (λ (u : TaskName). u.proc) procs t.proc o)
     good_ends_proc procs sx None e = sx
     good_ends_proc procs sx (Some r) e =
-        end_if (r.live == 0) (joins same_task (λ (u : TaskName). u.proc) (without_parent t.proc procs) r.parent) (record { procs = procs; proc_ended = false; woke = None }) (λ _. good_joins (without_parent t.proc procs) (orphaned procs s.book.waiting s.started T1 sx t.proc) r.parent (sx.procs t.proc r e).parent) (λ _. sx)
+        end_if (r.live == 0) (joins same_task (λ (u : TaskName). u.proc) (without_parent t.proc procs) r.parent) (record { procs = procs; proc_ended = false; woke = None }) (λ _. good_joins (without_parent t.proc procs) (orphaned procs s.book.waiting s.started T' sx t.proc) r.parent (sx.procs t.proc r e).parent) (λ _. sx)
 
     good_end : Good (ends_task s t)
     good_end = record { good = λ o. good_ends_proc (loses_first t.proc s.procs) (left _ (λ q. refl) (λ q. refl)) _ refl }
