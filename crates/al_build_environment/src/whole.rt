@@ -1,5 +1,5 @@
 //! The environment of a whole text.
-ghost use Rattle.std.specs.Prelude.{◌≡◌};
+ghost use Rattle.std.specs.Prelude.{◌≡◌, IfOk};
 ghost use Rattle.al_rules.specs.Outcome.{Answers};
 ghost use Rattle.al_typed.specs.Layout.{IsLaidOut};
 ghost use Rattle.al_build_environment.specs.Whole as spec;
@@ -113,7 +113,8 @@ fn whole(
     numbers: &[usize],
 ) -> Result<Environment, TypeStop>
     requires { IsLaidOut env.aggregates }
-    ensures { Answers result (spec.whole env tree.now defined.now forms.now order.now numbers.now) }
+    ensures answer { Answers result (spec.whole env tree.now defined.now forms.now order.now numbers.now) }
+    ensures laid { IfOk result (λ e. IsLaidOut e.aggregates) }
 {
     let names = names_of(alloc, &env, tree, defined, forms, order, numbers)?;
     let found = globals_of(alloc, &env, tree, defined)?;
@@ -130,7 +131,8 @@ fn laid_whole(
     laid: LaidOut,
 ) -> Result<Environment, TypeStop>
     requires { IsLaidOut laid.aggregates }
-    ensures { Answers result (spec.laid_whole tree.now scopes defined.now forms.now laid) }
+    ensures answer { Answers result (spec.laid_whole tree.now scopes defined.now forms.now laid) }
+    ensures laid { IfOk result (λ e. IsLaidOut e.aggregates) }
 {
     let LaidOut {
         aggregates,
@@ -159,7 +161,8 @@ fn formed(
     defined: &[Defined],
     forms: &Forms,
 ) -> Result<Environment, TypeStop>
-    ensures { Answers result (spec.formed tree.now scopes defined.now forms.now) }
+    ensures answer { Answers result (spec.formed tree.now scopes defined.now forms.now) }
+    ensures laid { IfOk result (λ e. IsLaidOut e.aggregates) }
 {
     let laid = laid_out(alloc, forms)?;
     laid_whole(alloc, tree, scopes, defined, forms, laid)
@@ -176,7 +179,8 @@ pub fn environment(
     instances: &Instances,
     scopes: Scopes,
 ) -> Result<Environment, TypeStop>
-    ensures { Answers result (spec.environment tree.now instances.now.list scopes) }
+    ensures answer { Answers result (spec.environment tree.now instances.now.list scopes) }
+    ensures laid { IfOk result (λ env. IsLaidOut env.aggregates) }
 {
     let defined = functions(alloc, tree, instances)?;
     let forms = forms(alloc, tree, instances)?;
