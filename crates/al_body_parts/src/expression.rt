@@ -1,5 +1,5 @@
 //! Expressions.
-ghost use Rattle.std.specs.Prelude.{◌≡◌, OnOk};
+ghost use Rattle.std.specs.Prelude.{◌≡◌, false, OnOk};
 ghost use Rattle.al_typed.specs.Layout.{IsLaidOut};
 ghost use Rattle.al_environment.specs.declared.environment.Environment.{Environment};
 ghost use Rattle.al_environment.specs.declared.environment.Here.{Here};
@@ -206,4 +206,20 @@ pub(crate) fn optional(
         None => Ok(()),
         Some(e) => expr(alloc, env, here, inside, e, parts),
     }
+}
+
+/// What an expression in an initializer of a global writes, behind what was gathered.
+///
+/// It is so in an environment where names of types and functions have meaning.
+pub fn push_expression(
+    alloc: Global,
+    env: &Environment,
+    here: &Here,
+    e: &Expr,
+    parts: &mut Parts,
+) -> Result<(), NoMemory>
+    requires { IsLaidOut env.now.aggregates }
+    ensures { OnOk result (parts.new ≡ spec.expr env.now here.now e.now false parts.old) }
+{
+    expr(alloc, env, here, false, e, parts)
 }

@@ -3,7 +3,7 @@
 //! 16, 18 and 20 of all types that are written in it.
 //!
 //! A branch of a par is a function of its own: its locals and labels are not those of the function round it, and what is
-//! written in it belongs to that one too.
+//! written in it belongs to that one too. Of the initializers of globals `push_expression` gathers the same.
 #![tactic(auto)]
 
 mod expression;
@@ -11,5 +11,6 @@ mod gathered;
 mod parts;
 mod statement;
 
+pub use expression::push_expression;
 pub use parts::{DeclaredLocal, Parts, WrittenText};
 pub use statement::body_parts;
