@@ -6,7 +6,7 @@ use Rattle.al_base.specs.declared.place.Place.{Place}
 use Rattle.al_rules.specs.declared.fault.TypeFault.{TypeFault}
 use Rattle.al_rules.specs.declared.fault.TypeStop.{TypeStop}
 use Rattle.al_rules.specs.declared.fault.TypeStop.TheVariants.{Fault as Broken, NoMemory}
-use Rattle.al_rules.specs.Outcome.{Outcome, Good, Bad, both, and_then, preceded, permits, among, same_fault}
+use Rattle.al_rules.specs.Outcome.{Outcome, Good, Bad, both, preceded, permits, among, same_fault}
 use Rattle.al_rules.proofs.Permits.{permits-left, permits-right, preceded-nil, preceded-cons}
 use Rattle.al_typed.specs.declared.statement.TStmt.{TStmt}
 use Rattle.al_statements.specs.declared.cases.Cases.{Cases}

@@ -1,10 +1,10 @@
 -- Iterators of one part after those of another.
-use Rattle.std.proofs.Common.{◌≡◌, ℕ, suc, true, ◌+◌, ◌<◌, ◌≤◌, List, [], ◌∷◌, ◌++◌, map, length, drop, get_or, refl, ap, ◌∙◌, sym, append_assoc, length-append, drop-cons, add-one, arith}
+use Rattle.std.proofs.Common.{◌≡◌, ℕ, suc, true, ◌+◌, ◌<◌, ◌≤◌, List, [], ◌∷◌, ◌++◌, length, drop, get_or, refl, ap, ◌∙◌, sym, append_assoc, length-append, drop-cons, add-one}
 use Rattle.std.specs.List.{flat_map}
 use Rattle.std.proofs.lemmas.List.{drop_all, append-nil}
 use Rattle.al_rules.specs.declared.fault.TypeStop.{TypeStop}
 use Rattle.al_rules.specs.declared.fault.TypeStop.TheVariants.{Fault as Broken, NoMemory}
-use Rattle.al_rules.specs.Outcome.{Outcome, Good, Bad, both, and_then, preceded, permits}
+use Rattle.al_rules.specs.Outcome.{Outcome, Good, Bad, and_then, preceded, permits}
 use Rattle.al_rules.proofs.Permits.{permits-left, permits-right, permits-then, preceded-nil, preceded-cons}
 use Rattle.al_typed.specs.declared.statement.TBounds.{TBounds}
 use Rattle.al_type_expr.specs.Lists.{each}
@@ -53,9 +53,10 @@ unfolding gathering each
 gathered-is g [] h e =
     (ap Good (append-nil g.bounds) ∙ ap (λ (x : Gathered). Good x.bounds) (good-is g h e), sym (ap (λ (x : Gathered). x.numbers) (good-is g h e)) ∙ sym (append-nil g.numbers))
 gathered-is g ((at, Good b) ∷ ss) h e =
-    let r : (preceded (g.bounds ++ b ∷ []) (all_bounds ss) ≡ Good h.bounds) × (h.numbers ≡ (g.numbers ++ numbered_at (length g.bounds) at) ++ numbered (length (g.bounds ++ b ∷ [])) ss) = gathered-is (with_one g at b) ss h e in
-    ( preceded-cons g.bounds b (all_bounds ss) ∙ r.0
-    , r.1 ∙ ap (λ l. (g.numbers ++ numbered_at (length g.bounds) at) ++ l) (numbers-after g.bounds b ss) ∙ append_assoc g.numbers (numbered_at (length g.bounds) at) (numbered (length g.bounds + 1) ss))
+    let r : (preceded (g.bounds ++ b ∷ []) (all_bounds ss) ≡ Good h.bounds) × (h.numbers ≡ (g.numbers ++ numbered_at (length g.bounds) at) ++ numbered (length (g.bounds ++ b ∷ [])) ss) = gathered-is (with_one g at b) ss h e in (
+      preceded-cons g.bounds b (all_bounds ss) ∙ r.0,
+      r.1 ∙ ap (λ l. (g.numbers ++ numbered_at (length g.bounds) at) ++ l) (numbers-after g.bounds b ss) ∙ append_assoc g.numbers (numbered_at (length g.bounds) at) (numbered (length g.bounds + 1) ss),
+    )
 gathered-is g ((at, Bad fs) ∷ ss) h e = cc
 
 stops : (g : Gathered) (ss : List Spread) (s : TypeStop) → permits (gathering g ss) s ≡ true → permits (all_bounds ss) s ≡ true

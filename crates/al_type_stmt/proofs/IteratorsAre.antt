@@ -14,7 +14,7 @@ use Rattle.al_tree.specs.declared.expression.Expr.TheVariants as n
 use Rattle.al_tree.specs.declared.expression.Expr.TheOpen.{Expr-F}
 use Rattle.al_environment.specs.declared.environment.Environment.{Environment}
 use Rattle.al_environment.specs.declared.environment.Here.{Here}
-use Rattle.al_type_stmt.specs.Iterators.{Spread, spreads, spread, step, iterators}
+use Rattle.al_type_stmt.specs.Iterators.{Spread, spread, step, iterators}
 
 -- a list with what was found in each
 flat_map-pairs : {A B : Type 0} (f : A → List B) (xs : List A) → flat_map (λ (p : A × List B). p.1) (map (λ x. (x, f x)) xs) ≡ flat_map f xs

@@ -1,7 +1,6 @@
 -- What each kind of statement gives.
-use Rattle.std.proofs.Common.{◌≡◌, ℕ, List, map, Option, Some, None, option_map, refl, ap, ◌∙◌, sym}
+use Rattle.std.proofs.Common.{◌≡◌, ℕ, List, map, Option, Some, None, option_map, ap, ◌∙◌, sym}
 use Rattle.al_base.specs.declared.place.Place.{Place}
-use Rattle.al_rules.specs.Outcome.{Outcome}
 use Rattle.al_tree.specs.declared.type_tree.TypeTree.{TypeTree}
 use Rattle.al_tree.specs.declared.expression.Name.{Name}
 use Rattle.al_tree.specs.declared.expression.Expr.{Expr}

@@ -1,5 +1,5 @@
 -- The numbers that statements have by their places.
-use Rattle.std.specs.Prelude.{ℕ, nat_le, Bool, false, if◌then◌else◌, Option, Some, None}
+use Rattle.std.specs.Prelude.{ℕ, nat_le, false, if◌then◌else◌, Option, Some, None}
 use Rattle.al_base.specs.declared.place.Place.{Place}
 use Rattle.al_rules.specs.Outcome.{Outcome, Good, Bad, ask}
 

@@ -1,12 +1,11 @@
 -- The typed statement of a tree, or the faults in it.
-use Rattle.std.specs.Prelude.{ℕ, Bool, true, false, length, List, [], ◌∷◌, ◌++◌, map, filter, Option, Some, None, is_some, option_and_then}
+use Rattle.std.specs.Prelude.{ℕ, Bool, true, false, length, List, [], ◌∷◌, ◌++◌, map, filter, Option, Some, None}
 use Rattle.std.specs.List.{flat_map}
 use Rattle.al_base.specs.declared.place.Place.{Place}
 use Rattle.al_base.specs.declared.arith.Kind.{Kind}
 use Rattle.al_rules.specs.declared.fault.TypeFault.{TypeFault}
-use Rattle.al_rules.specs.Outcome.{Outcome, Good, Bad, ask, judge, and_then, both, pair}
+use Rattle.al_rules.specs.Outcome.{Outcome, Good, Bad, ask, judge, and_then, pair}
 use Rattle.al_tree.specs.declared.expression.Expr.{Expr}
-use Rattle.al_tree.specs.declared.expression.Name.{Name}
 use Rattle.al_tree.specs.declared.statement.Variable.{Variable}
 use Rattle.al_tree.specs.declared.statement.Stmt.{Stmt, fold-Stmt}
 use Rattle.al_tree.specs.declared.statement.Stmt.TheOpen.{Stmt-F}
@@ -14,9 +13,7 @@ use Rattle.al_scope.specs.declared.declaration.Declaration.{Declaration}
 use Rattle.al_scope.specs.declared.declaration.Declaration.TheVariants as declaration
 use Rattle.al_scope.specs.Expressions.{place as expr_place}
 use Rattle.al_scope.specs.Firsts.{declaration_at}
-use Rattle.al_flow.specs.declared.target.Target.{Target}
 use Rattle.al_flow.specs.Targets.{number_at as target_at}
-use Rattle.al_typed.specs.declared.ty.Ty.{Ty}
 use Rattle.al_typed.specs.declared.expression.TExpr.{TExpr}
 use Rattle.al_typed.specs.declared.expression.TPlace.{TPlace}
 use Rattle.al_typed.specs.declared.statement.TInitializer.{TInitializer}
@@ -27,7 +24,6 @@ use Rattle.al_convert.specs.Kinds.{kind_of}
 use Rattle.al_environment.specs.declared.environment.Environment.{Environment}
 use Rattle.al_environment.specs.declared.environment.Here.{Here}
 use Rattle.al_environment.specs.declared.environment.Variable.{Variable as Known}
-use Rattle.al_environment.specs.declared.numbered.Numbered.{Numbered}
 use Rattle.al_environment.specs.Firsts.{number_at}
 use Rattle.al_environment.specs.Lookups.{local}
 use Rattle.al_operands.specs.declared.operand.Operand.{Operand}

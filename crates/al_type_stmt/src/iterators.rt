@@ -190,7 +190,12 @@ fn gather(
 
 /// The iterators of an expression.
 #[tactic(auto, using(crate::proofs::Gathering::from_none))]
-fn all_iterators(alloc: Global, env: &Environment, here: &Here, e: &Expr) -> Result<Gathered, TypeStop>
+fn all_iterators(
+    alloc: Global,
+    env: &Environment,
+    here: &Here,
+    e: &Expr,
+) -> Result<Gathered, TypeStop>
     ensures ok { IfOk result (λ g. spec.IsGathered g (iterators env.now here.now e.now)) }
     ensures stop { IfErr result (λ s. permits (spec.all_bounds (iterators env.now here.now e.now)) s ≡ true) }
 {

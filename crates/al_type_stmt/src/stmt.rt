@@ -8,8 +8,8 @@ ghost use Rattle.al_typed.specs.Layout.{IsLaidOut};
 ghost use Rattle.al_type_stmt.specs.Statements as spec;
 ghost use Rattle.al_type_stmt.specs.Statements.{part, inner, in_choice, optional, of_each};
 
-use crate::labels::{alt_of, labelled};
 use crate::iterators::value_statement;
+use crate::labels::{alt_of, labelled};
 use crate::leaf::{become_at, case_at, check_at, condition_of, default_at, for_head, return_at};
 use crate::lists::{alloc_at, declared, par_at, proc_at, task_at, unalloc_at};
 use crate::numbers::{break_at, continue_at, goto_at, raise_at, target};

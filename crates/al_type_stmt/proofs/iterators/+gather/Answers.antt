@@ -9,7 +9,7 @@ gather_all-returns-in_err-met t c =
     let i = iterators c.args.env.now c.args.here.now in
     let p = err_from_is_err_and c.from_residual.result c.from_residual.ensures.1 in
     let q =
-        gathering-stops i c.args.parts.now (gathering c.args.met (flat_map i c.args.parts.now)) c.loop-part.met c.loop-part.part-index c.part-item.result c.in_err-met.field-0.0 c.loop-part.invariant c.loop-part-test.true c.part-item.is c.in_err-met.ensures in
+    gathering-stops i c.args.parts.now (gathering c.args.met (flat_map i c.args.parts.now)) c.loop-part.met c.loop-part.part-index c.part-item.result c.in_err-met.field-0.0 c.loop-part.invariant c.loop-part-test.true c.part-item.is c.in_err-met.ensures in
     rw (p.1, p.2) q
 
 pub gather_all-loop-part-preserved : goal.gather_all-loop-part-preserved
