@@ -1,0 +1,4 @@
+mod StatementsAre
+mod IteratorsAre
+mod Gathering
+mod EachOf

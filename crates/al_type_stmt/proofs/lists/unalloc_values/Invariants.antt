@@ -1,0 +1,8 @@
+use Rattle.std.proofs.Common.{◌≡◌, map, drop}
+use Rattle.al_rules.specs.Outcome.{preceded}
+use Rattle.al_type_expr.specs.Lists.{each}
+use Rattle.al_type_stmt.specs.Statements.{unalloc_value}
+use Rattle.al_type_stmt.proofs.lists.unalloc_values.Given as goal
+
+abbrev pub invariant-loop-e : goal.invariant-loop-e
+invariant-loop-e l = each (map (unalloc_value l.env l.here) l.es) ≡ preceded l.done (each (map (unalloc_value l.env l.here) (drop l.e-index l.es)))

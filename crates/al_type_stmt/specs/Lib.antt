@@ -1,0 +1,3 @@
+pub mod Iterators
+pub mod Numbers
+pub mod Statements
