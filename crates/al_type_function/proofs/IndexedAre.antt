@@ -1,5 +1,5 @@
 -- What is made of elements by their numbers, from a place on.
-use Rattle.std.proofs.Common.{◌≡◌, ℕ, suc, ◌+◌, ◌<◌, ◌≤◌, List, [], ◌∷◌, ◌++◌, length, get_or, drop, refl, ap, ◌∙◌, sym, append_assoc, drop-cons, add-one}
+use Rattle.std.proofs.Common.{◌≡◌, ℕ, suc, ◌+◌, ◌<◌, ◌≤◌, List, [], ◌∷◌, ◌++◌, length, get_or, drop, ap, ◌∙◌, sym, append_assoc, drop-cons, add-one}
 use Rattle.std.proofs.lemmas.List.{drop_all, append-nil}
 use Rattle.al_type_function.specs.Numbers.{indexed}
 

@@ -1,6 +1,6 @@
 -- What comes off the end of a list, and where a site is again behind a branch.
 use Rattle.std.proofs.Common.{◌≡◌, ℕ, List, [], ◌∷◌, ◌++◌, Option, Some, None, ap, ◌∙◌, sym, subst}
-use Rattle.std.specs.Prelude.{MatchOption, Result, Ok, Err, IfOk}
+use Rattle.std.specs.Prelude.{MatchOption, Result, Ok, IfOk}
 use Rattle.std.proofs.lemmas.List.{same_from_push}
 use Rattle.al_environment.specs.declared.environment.Variable.{Variable}
 use Rattle.al_environment.specs.declared.environment.Here.{Here}

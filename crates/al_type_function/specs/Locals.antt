@@ -1,5 +1,5 @@
 -- The parameters and locals of a function or par branch.
-use Rattle.std.specs.Prelude.{ℕ, nat_le, Bool, false, not, ◌||◌, if◌then◌else◌, List, [], ◌∷◌, ◌++◌, map, length, slice_get, Option, Some, None, unwrap_or}
+use Rattle.std.specs.Prelude.{ℕ, nat_le, Bool, false, not, ◌||◌, if◌then◌else◌, List, [], ◌∷◌, map, length, slice_get, Option, Some, None, unwrap_or}
 use Rattle.al_base.specs.declared.place.Place.{Place}
 use Rattle.al_tree.specs.declared.item.Parameter.{Parameter}
 use Rattle.al_tree.specs.declared.item.Parameter.TheVariants as parameter

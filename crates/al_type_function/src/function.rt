@@ -137,5 +137,14 @@ pub fn typed_function(
     let opened = open_function(alloc, env, names, numbers, base, head, body);
     let targets = find_targets(alloc, body);
     let (opened, targets) = parts(opened, targets)?;
-    completed(alloc, env, names, numbers.number, branches, body, opened, targets)
+    completed(
+        alloc,
+        env,
+        names,
+        numbers.number,
+        branches,
+        body,
+        opened,
+        targets,
+    )
 }

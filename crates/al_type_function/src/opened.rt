@@ -165,7 +165,16 @@ fn open_in(
     let mut dropped = Items::new(alloc);
     let parameters = head.parameters.as_slice();
     let at = head.name.at;
-    let s = signature(alloc, env, &here, at, base, head.stars, parameters, &mut dropped)?;
+    let s = signature(
+        alloc,
+        env,
+        &here,
+        at,
+        base,
+        head.stars,
+        parameters,
+        &mut dropped,
+    )?;
     let p = body_parts(alloc, env, &here, body)?;
     let frame = function_frame(alloc, env, names, head, body, &s, &p)?;
     let faults = faults_of(alloc, env, head, &p, &frame)?;

@@ -40,10 +40,7 @@ pub(crate) fn text_numbers(
 }
 
 /// Their bytes.
-pub(crate) fn text_bytes(
-    alloc: Global,
-    texts: &[WrittenText],
-) -> Result<Items<Items<u8>>, NoMemory>
+pub(crate) fn text_bytes(alloc: Global, texts: &[WrittenText]) -> Result<Items<Items<u8>>, NoMemory>
     ensures { IfOk result (λ list. list ≡ map spec.bytes_in texts.now) }
 {
     let mut list = Items::with_capacity(alloc, texts.len())?;

@@ -1,5 +1,4 @@
 use Rattle.std.proofs.Common.{◌≡◌, ◌∙◌}
-use Rattle.al_type_function.specs.declared.site.Site.{Site}
 use Rattle.al_type_function.specs.declared.branch.NumberedBranch.{NumberedBranch}
 use Rattle.al_type_function.specs.Branches.{inner_site}
 use Rattle.al_type_function.proofs.SitesAre.{of_ok}
