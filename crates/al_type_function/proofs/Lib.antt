@@ -1,0 +1,5 @@
+mod IndexedAre
+mod SharedAre
+mod TextsAre
+mod SitesAre
+mod BranchesAre
