@@ -1,0 +1,4 @@
+pub mod Statements
+pub mod Numbers
+pub mod Tables
+pub mod Law
