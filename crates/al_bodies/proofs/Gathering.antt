@@ -1,5 +1,5 @@
 -- Functions from a place on.
-use Rattle.std.proofs.Common.{◌≡◌, ℕ, suc, ◌+◌, ◌<◌, ◌≤◌, List, [], ◌∷◌, length, get_or, drop, reverse, ap, ◌∙◌, sym, drop-cons, add-one}
+use Rattle.std.proofs.Common.{◌≡◌, ℕ, ◌+◌, ◌<◌, ◌≤◌, List, length, get_or, drop, ap, ◌∙◌, sym, drop-cons, add-one}
 use Rattle.std.proofs.lemmas.List.{drop_all, reverse-reverse}
 use Rattle.al_tree.specs.declared.item.Item.{Item}
 use Rattle.al_rules.specs.Outcome.{Outcome, Good, and_then}

@@ -1,14 +1,13 @@
 -- Places of numbers.
-use Rattle.std.proofs.Common.{◌≡◌, ◌==◌, ℕ, zero, suc, ◌+◌, ◌-◌, ◌<◌, ◌≤◌, Bool, true, false, cond, List, [], ◌∷◌, ◌++◌, length, map, get_or, reverse, refl, ap, ◌∙◌, sym, arith, inl, inr, Option, Some, None, option_map, append_assoc}
+use Rattle.std.proofs.Common.{◌≡◌, ℕ, ◌+◌, ◌-◌, ◌<◌, ◌≤◌, cond, List, [], ◌∷◌, ◌++◌, length, get_or, reverse, ap, ◌∙◌, sym, arith, inl, inr, Option, Some, None, option_map, append_assoc}
 use Rattle.std.specs.Prelude.{nat_le, if◌then◌else◌, replicate, slice_set}
-use Rattle.std.specs.List.{flat_map, range_with_len, find}
+use Rattle.std.specs.List.{flat_map, find}
 use Rattle.std.specs.Option.{option_to_list}
 use Rattle.std.proofs.Math.ListN.{set, length-set}
 use Rattle.std.proofs.lemmas.Bool.{eq-eqb, ne_eqb, cases_eq, cases_lt, le-leb, lt-leb}
 use Rattle.std.proofs.lemmas.Grind.{get_or-set_at}
 use Rattle.std.proofs.lemmas.List.{set_past, get_or-set_other, replicate-append-replicate, reverse-append, append-nil, get_or-replicate, length-replicate}
 use Rattle.std.proofs.lemmas.List.FromFn.{fill_by_all, length-map-range_with_len, get_or-map-range_with_len}
-use Rattle.al_typed.specs.declared.program.Function.{Function}
 use Rattle.al_type_function.specs.declared.branch.NumberedBranch.{NumberedBranch}
 use Rattle.al_bodies.specs.Placing.{function_of, has_number, branch_of, by_number}
 

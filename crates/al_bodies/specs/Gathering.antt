@@ -1,5 +1,5 @@
 -- What is found of the functions of a text, one after the other.
-use Rattle.std.specs.Prelude.{ℕ, ◌+◌, List, [], ◌∷◌, ◌++◌, length, slice_get, Option, Some, None}
+use Rattle.std.specs.Prelude.{ℕ, ◌+◌, List, [], ◌∷◌, ◌++◌, length, slice_get, Option, Some}
 use Rattle.al_tree.specs.declared.type_tree.TypeTree.{TypeTree}
 use Rattle.al_tree.specs.declared.statement.Stmt.{Stmt}
 use Rattle.al_tree.specs.declared.item.Head.{Head}

@@ -1,6 +1,6 @@
 -- The branches of a program have the numbers behind its functions, each of them one.
-use Rattle.std.proofs.Common.{◌≡◌, ◌==◌, ℕ, zero, suc, ◌+◌, ◌*◌, ◌-◌, ◌/◌, ◌%◌, ◌<◌, ◌≤◌, Bool, true, false, cond, List, [], ◌∷◌, ◌++◌, length, take, refl, ap, ◌∙◌, sym, subst, arith, inl, inr, add-one, Option, Some, None}
-use Rattle.std.specs.Prelude.{nat_le, if◌then◌else◌, slice_get}
+use Rattle.std.proofs.Common.{◌≡◌, ℕ, zero, suc, ◌+◌, ◌*◌, ◌-◌, ◌/◌, ◌%◌, ◌<◌, ◌≤◌, Bool, List, [], ◌∷◌, ◌++◌, length, take, refl, ap, ◌∙◌, sym, subst, arith, inl, inr, add-one, Some, None}
+use Rattle.std.specs.Prelude.{if◌then◌else◌, slice_get}
 use Rattle.std.specs.List.{sum_by, range_with_len}
 use Rattle.std.proofs.Math.Nat.{div-add-mod, div-lt_iff_lt-mul, mod-lt, mul_comm}
 use Rattle.std.proofs.lemmas.Bool.{cases_lt, cases_eq, le-leb}
@@ -87,7 +87,7 @@ module _ (items : List Item) where
       times_zero n = omega arith
   all-sum (d ∷ ds) =
       sum-both (given items (d ∷ ds)) (of_one d) (given items ds) (length items)
-        (λ i. ap (λ n. length (branches_at items i) * n) (uses-cons d ds i) ∙ distributed (length (branches_at items i)) (one_if d i) (uses ds i))
+      (λ i. ap (λ n. length (branches_at items i) * n) (uses-cons d ds i) ∙ distributed (length (branches_at items i)) (one_if d i) (uses ds i))
       ∙ ap (λ n. n + sum_by (given items ds) (range_with_len 0 (length items))) (one-sum d)
       ∙ ap (λ n. length (branches_at items d.item) + n) (all-sum ds)
       ∙ sym (sum_by-cons (λ (x : Defined). length (branches_at items x.item)) d ds)
@@ -109,7 +109,7 @@ module _ (items : List Item) (ds : List Defined) where
   high k d j b =
       let rank = rank-below ds k d b.is in
       let within : uses (take k ds) d.item + j * uses ds d.item < length (branches_at items d.item) * uses ds d.item =
-            pair-within (uses ds d.item) (length (branches_at items d.item)) (uses (take k ds) d.item) j (omega arith) b.has in
+      pair-within (uses ds d.item) (length (branches_at items d.item)) (uses (take k ds) d.item) j (omega arith) b.has in
       omega arith
 
   -- branches stand behind the functions
@@ -146,19 +146,19 @@ module _ (items : List Item) (ds : List Defined) where
       let own = rank-below ds k d b.is in
       let other : uses (take m ds) d.item + 1 ≤ uses ds d.item = subst (λ i. uses (take m ds) i + 1 ≤ uses ds i) (sym item) (rank-below ds m e c.is) in
       let equal : number_of items ds k d j ≡ first items ds d.item + uses (take m ds) d.item + l * uses ds d.item =
-            same ∙ ap (λ i. first items ds i + uses (take m ds) i + l * uses ds i) (sym item) in
+      same ∙ ap (λ i. first items ds i + uses (take m ds) i + l * uses ds i) (sym item) in
       let pairs : uses (take k ds) d.item + j * uses ds d.item ≡ uses (take m ds) d.item + l * uses ds d.item = omega arith in
       let found = pair-once (uses ds d.item) (uses (take k ds) d.item) j (uses (take m ds) d.item) l (omega arith) (omega arith) pairs in
       let ranks = found.0 in
       elim (cases_lt k m) [
         | inl less ↦ let rises = rank-rises ds k m d e b.is c.is less in absurd (omega arith)
         | inr most ↦ elim (cases_lt m k) [
-            | inl less ↦
-                let rises : uses (take m ds) d.item + 1 ≤ uses (take k ds) d.item =
-                      subst (λ i. uses (take m ds) i + 1 ≤ uses (take k ds) i) (sym item) (rank-rises ds m k e d c.is b.is less) in
-                absurd (omega arith)
-            | inr least ↦ (omega arith, found.1)
-          ]
+          | inl less ↦
+              let rises : uses (take m ds) d.item + 1 ≤ uses (take k ds) d.item =
+              subst (λ i. uses (take m ds) i + 1 ≤ uses (take k ds) i) (sym item) (rank-rises ds m k e d c.is b.is less) in
+              absurd (omega arith)
+          | inr least ↦ (omega arith, found.1)
+        ]
       ]
 
   -- two branches have different numbers
@@ -166,9 +166,9 @@ module _ (items : List Item) (ds : List Defined) where
   once k m d e j l b c same = elim (cases_lt d.item e.item) [
     | inl less ↦ absurd (same-item k m d e j l b c same less)
     | inr most ↦ elim (cases_lt e.item d.item) [
-        | inl less ↦ absurd (same-item m k e d l j c b (sym same) less)
-        | inr least ↦ once-of k m d e j l b c same (omega arith)
-      ]
+      | inl less ↦ absurd (same-item m k e d l j c b (sym same) less)
+      | inr least ↦ once-of k m d e j l b c same (omega arith)
+    ]
   ]
 
   positive : (c u m : ℕ) → m < c * u → 0 < u
@@ -259,6 +259,7 @@ module _ (items : List Item) (ds : List Defined) where
     where
       add_zero : (n : ℕ) → n ≡ n + 0
       add_zero n = omega arith
+
       some_is : (x d : Defined) → Some x ≡ Some d → x ≡ d
       some_is x d h = cc
   from-get (x ∷ xs) from (suc k) d h = from-get xs (from + 1) k d h ∙ ap (λ k. Some (numbers_of items ds k d)) (regrouped from k)

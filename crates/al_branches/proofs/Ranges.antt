@@ -1,11 +1,10 @@
 -- The numbers of the branches of each item stand behind those of the items before it.
-use Rattle.std.proofs.Common.{◌≡◌, ◌==◌, ℕ, zero, suc, ◌+◌, ◌*◌, ◌-◌, ◌/◌, ◌%◌, ◌<◌, ◌≤◌, Bool, true, false, cond, List, [], ◌∷◌, length, refl, ap, ◌∙◌, sym, subst, arith, inl, inr, add-one}
-use Rattle.std.specs.List.{sum_by, range_with_len}
+use Rattle.std.proofs.Common.{◌≡◌, ℕ, zero, suc, ◌+◌, ◌*◌, ◌-◌, ◌<◌, ◌≤◌, List, length, ap, sym, arith, inl, inr, add-one}
 use Rattle.std.proofs.Math.Nat.{mul-le-mul_right}
-use Rattle.std.proofs.lemmas.Bool.{cases_lt, cases_eq}
+use Rattle.std.proofs.lemmas.Bool.{cases_lt}
 use Rattle.al_tree.specs.declared.item.Item.{Item}
 use Rattle.al_declare.specs.declared.function.Defined.{Defined}
-use Rattle.al_branches.specs.Numbers.{branches_at, uses, given, first}
+use Rattle.al_branches.specs.Numbers.{given, first}
 use Rattle.al_branches.proofs.FirstsAre.{first-none, first-more}
 
 -- ---- numbers as pairs
@@ -27,9 +26,9 @@ pub pair-once : (u r j q l : ℕ) → r < u → q < u → r + j * u ≡ q + l * 
 pair-once u r j q l small less e = elim (cases_lt j l) [
   | inl below ↦ absurd (same-second u r j q l small e below)
   | inr above ↦ elim (cases_lt l j) [
-      | inl below ↦ absurd (same-second u q l r j less (sym e) below)
-      | inr least ↦ let same : j ≡ l = omega arith in (cancelled u r j q l e same, same)
-    ]
+    | inl below ↦ absurd (same-second u q l r j less (sym e) below)
+    | inr least ↦ let same : j ≡ l = omega arith in (cancelled u r j q l e same, same)
+  ]
 ]
   where
     cancelled : (u r j q l : ℕ) → r + j * u ≡ q + l * u → j ≡ l → r ≡ q

@@ -1,5 +1,5 @@
 -- The numbers of branches one by one.
-use Rattle.std.specs.Prelude.{ℕ, ◌≡◌, ◌+◌, ◌*◌, ◌<◌, List, length, take, slice_get, Option, Some}
+use Rattle.std.specs.Prelude.{ℕ, ◌≡◌, ◌+◌, ◌*◌, ◌<◌, List, length, take, slice_get, Some}
 use Rattle.std.specs.List.{sum_by}
 use Rattle.al_tree.specs.declared.item.Item.{Item}
 use Rattle.al_declare.specs.declared.function.Defined.{Defined}

@@ -1,4 +1,4 @@
-use Rattle.std.proofs.Common.{◌≡◌, ◌+◌, reverse, get_or, None, ◌∙◌, rules}
+use Rattle.std.proofs.Common.{reverse, get_or, None, ◌∙◌, rules}
 use Rattle.al_rules.proofs.Permits.{permits-then}
 use Rattle.al_declare.specs.declared.function.Defined.{Defined}
 use Rattle.al_bodies.specs.Gathering.{next}

@@ -1,7 +1,6 @@
-use Rattle.std.proofs.Common.{◌≡◌, ◌-◌, ◌++◌, ◌∷◌, [], Some, length, ap, sym, ◌∙◌, append_assoc}
+use Rattle.std.proofs.Common.{◌-◌, ◌++◌, ◌∷◌, [], Some, length, ap, sym, ◌∙◌, append_assoc}
 use Rattle.std.specs.Prelude.{nat_le, if◌then◌else◌, slice_set}
 use Rattle.std.proofs.lemmas.List.{append-nil}
-use Rattle.al_bodies.specs.Placing.{by_number}
 use Rattle.al_bodies.proofs.Places.{no_branches, put-before}
 use Rattle.al_bodies.proofs.place.by_number.Goals as goal
 
