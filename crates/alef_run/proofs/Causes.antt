@@ -14,13 +14,18 @@ use Rattle.rv_image.specs.declared.fault.ImageFault.{ImageFault}
 use Rattle.rv_image.specs.Spelling.{IsImage}
 use Rattle.rv_image.specs.Reading.{reading}
 use Rattle.rv_image.proofs.Again.{image_again}
+use Rattle.al_front.specs.Accepted.{IsRefused}
+use Rattle.al_front.specs.declared.refused.Refused.{Refused as Reason}
 use Rattle.alef_run.specs.Call.{Call, LacksText, text_in}
 use Rattle.alef_run.specs.RunMode.{EndsRun, HasNoForm}
 use Rattle.alef_run.specs.ExecMode.{EndsExec, RanImage}
+use Rattle.alef_run.specs.CheckMode.{HasProgram, EndsCheck}
 use Rattle.alef_run.specs.Modes.{EndsIdle, EndsIn, EndsBy, is_built, built}
 use Rattle.alef_run.specs.declared.report.End.{End}
-use Rattle.alef_run.specs.declared.report.End.TheVariants.{Ran, Words, ReadFault, Refused, BadImage, WriteFault, NoMemory}
-use Rattle.alef_run.specs.declared.report.Refused.TheVariants.{Form as Other}
+use Rattle.alef_run.specs.declared.report.End.TheVariants.{Ran, Made, Words, ReadFault, Refused, BadImage, WriteFault, NoMemory}
+use Rattle.alef_run.specs.declared.report.Refused.TheVariants.{Form as Other, Text}
+use Rattle.alef_run.proofs.Checks.{missing_check, host_check, out_check, complete_check, refused_check}
+use Rattle.alef_run.proofs.Told.{neither, not_missing}
 
 -- ---- the job of the words
 
@@ -41,31 +46,23 @@ job_built (Some j) job e = on (is_built j.mode) refl e
     on true is e = let same : j ≡ job = cc in ap (λ (j : Job). is_built j.mode) (sym same) ∙ is
     on false is e = absurd (cc)
 
-neither : {A B : Type 0} → A ⊎ B → (A → ⊥) → (B → ⊥) → ⊥
-neither (inl a) f g = f a
-neither (inr b) f g = g b
-
-not_missing : (told : Option Content) (text file : List ℕ) → text_in told file ≡ Some text → LacksText told file → ⊥
-not_missing None text file is lacks = lacks
-not_missing (Some content) text file is lacks = cc
-
 module _ (call : Call) where
   -- what follows from each way to end follows from the end
-  by_mode : (A : Type 0) (end : End) (mode : Mode) (job : Job) → (EndsIdle call end → A) → (EndsRun job.file call end → A) → (EndsExec job call end → A) → EndsIn mode job call end → A
-  by_mode A end Run job idle run exec e = run e
-  by_mode A end Exec job idle run exec e = exec e
-  by_mode A end Replay job idle run exec e = idle e
-  by_mode A end Recorded job idle run exec e = idle e
-  by_mode A end Build job idle run exec e = idle e
-  by_mode A end Check job idle run exec e = idle e
-  by_mode A end Sample job idle run exec e = idle e
-  by_mode A end Race job idle run exec e = idle e
-  by_mode A end Step job idle run exec e = idle e
-  by_mode A end Link job idle run exec e = idle e
+  by_mode : (A : Type 0) (end : End) (mode : Mode) (job : Job) → (EndsIdle call end → A) → (EndsRun job.file call end → A) → (EndsExec job call end → A) → (EndsCheck job.file call end → A) → EndsIn mode job call end → A
+  by_mode A end Run job idle run exec check e = run e
+  by_mode A end Exec job idle run exec check e = exec e
+  by_mode A end Check job idle run exec check e = check e
+  by_mode A end Replay job idle run exec check e = idle e
+  by_mode A end Recorded job idle run exec check e = idle e
+  by_mode A end Build job idle run exec check e = idle e
+  by_mode A end Sample job idle run exec check e = idle e
+  by_mode A end Race job idle run exec check e = idle e
+  by_mode A end Step job idle run exec check e = idle e
+  by_mode A end Link job idle run exec check e = idle e
 
-  by_job : (A : Type 0) (end : End) (o : Option Job) → (EndsIdle call end → A) → ((job : Job) → EndsRun job.file call end → A) → ((job : Job) → EndsExec job call end → A) → EndsBy o call end → A
-  by_job A end None idle run exec e = idle e
-  by_job A end (Some job) idle run exec e = by_mode A end job.mode job idle (run job) (exec job) e
+  by_job : (A : Type 0) (end : End) (o : Option Job) → (EndsIdle call end → A) → ((job : Job) → EndsRun job.file call end → A) → ((job : Job) → EndsExec job call end → A) → ((job : Job) → EndsCheck job.file call end → A) → EndsBy o call end → A
+  by_job A end None idle run exec check e = idle e
+  by_job A end (Some job) idle run exec check e = by_mode A end job.mode job idle (run job) (exec job) (check job) e
 
   ends_in : (end : End) (o : Option Job) (job : Job) → EndsBy o call end → built o ≡ Some job → EndsIn job.mode job call end
   ends_in end o job e is = let P : Option Job → Type 0 = λ o. EndsBy o call end in subst P (job_was o job is) e
@@ -76,15 +73,18 @@ module _ (call : Call) where
   pub ends_exec : (end : End) (o : Option Job) (job : Job) → EndsBy o call end → built o ≡ Some job → job.mode ≡ Exec → EndsExec job call end
   ends_exec end o job e is mode = let P : Mode → Type 0 = λ mode. EndsIn mode job call end in subst P mode (ends_in end o job e is)
 
+  pub ends_check : (end : End) (o : Option Job) (job : Job) → EndsBy o call end → built o ≡ Some job → job.mode ≡ Check → EndsCheck job.file call end
+  ends_check end o job e is mode = let P : Mode → Type 0 = λ mode. EndsIn mode job call end in subst P mode (ends_in end o job e is)
+
   -- ---- words
 
   words_in : (end : End) (mode : Mode) (job : Job) → EndsIn mode job call end → end ≡ Words → is_built mode ≡ false
   words_in end Run job e is = absurd (let P : End → Type 0 = EndsRun job.file call in subst P is e)
   words_in end Exec job e is = absurd (let P : End → Type 0 = EndsExec job call in subst P is e)
+  words_in end Check job e is = absurd (let P : End → Type 0 = EndsCheck job.file call in subst P is e)
   words_in end Replay job e is = refl
   words_in end Recorded job e is = refl
   words_in end Build job e is = refl
-  words_in end Check job e is = refl
   words_in end Sample job e is = refl
   words_in end Race job e is = refl
   words_in end Step job e is = refl
@@ -97,10 +97,10 @@ module _ (call : Call) where
   idle_in : (end : End) (mode : Mode) (job : Job) → EndsIn mode job call end → cond (is_built mode) (Some job) None ≡ None → (end ≡ Words) ⊎ (end ≡ NoMemory)
   idle_in end Run job e is = absurd (cc)
   idle_in end Exec job e is = absurd (cc)
+  idle_in end Check job e is = absurd (cc)
   idle_in end Replay job e is = e.0
   idle_in end Recorded job e is = e.0
   idle_in end Build job e is = e.0
-  idle_in end Check job e is = e.0
   idle_in end Sample job e is = e.0
   idle_in end Race job e is = e.0
   idle_in end Step job e is = e.0
@@ -116,8 +116,10 @@ module _ (call : Call) where
   missing_run file (Ran over) e m = absurd (e.2.1.read.found m)
   missing_run file WriteFault e m = absurd (e.1.1.read.found m)
   missing_run file ReadFault e m = inl refl
-  missing_run file (Refused reason) e m = absurd (e.0.found m)
+  missing_run file (Refused Other) e m = absurd (e.0.found m)
+  missing_run file (Refused (Text reason)) e m = absurd e
   missing_run file NoMemory e m = inr refl
+  missing_run file Made e m = absurd e
   missing_run file Words e m = absurd e
   missing_run file (BadImage fault) e m = absurd e
 
@@ -127,16 +129,17 @@ module _ (call : Call) where
   missing_exec job ReadFault e m = inl refl
   missing_exec job (BadImage fault) e m = absurd (e.0.found m)
   missing_exec job NoMemory e m = inr refl
+  missing_exec job Made e m = absurd e
   missing_exec job Words e m = absurd e
   missing_exec job (Refused reason) e m = absurd e
 
   missing_in : (end : End) (mode : Mode) (job : Job) → is_built mode ≡ true → EndsIn mode job call end → LacksText call.told job.file → (end ≡ ReadFault) ⊎ (end ≡ NoMemory)
   missing_in end Run job is e m = missing_run job.file end e m
   missing_in end Exec job is e m = missing_exec job end e m
+  missing_in end Check job is e m = missing_check job.file call end e m
   missing_in end Replay job is e m = absurd (cc)
   missing_in end Recorded job is e m = absurd (cc)
   missing_in end Build job is e m = absurd (cc)
-  missing_in end Check job is e m = absurd (cc)
   missing_in end Sample job is e m = absurd (cc)
   missing_in end Race job is e m = absurd (cc)
   missing_in end Step job is e m = absurd (cc)
@@ -149,8 +152,10 @@ module _ (call : Call) where
   host_run file (Ran over) e rose = let calm = e.2.1.read.calm in absurd (omega (arith, calm, rose))
   host_run file WriteFault e rose = let calm = e.1.1.read.calm in absurd (omega (arith, calm, rose))
   host_run file ReadFault e rose = refl
-  host_run file (Refused reason) e rose = let calm = e.0.calm in absurd (omega (arith, calm, rose))
+  host_run file (Refused Other) e rose = let calm = e.0.calm in absurd (omega (arith, calm, rose))
+  host_run file (Refused (Text reason)) e rose = absurd e
   host_run file NoMemory e rose = absurd (neither e.0 (λ u. let calm = u.calm in omega (arith, calm, rose)) (λ r. let calm = r.calm in omega (arith, calm, rose)))
+  host_run file Made e rose = absurd e
   host_run file Words e rose = absurd e
   host_run file (BadImage fault) e rose = absurd e
 
@@ -160,19 +165,23 @@ module _ (call : Call) where
   host_exec job ReadFault e rose = refl
   host_exec job (BadImage fault) e rose = let calm = e.0.calm in absurd (omega (arith, calm, rose))
   host_exec job NoMemory e rose = let calm = e.0 in absurd (omega (arith, calm, rose))
+  host_exec job Made e rose = absurd e
   host_exec job Words e rose = absurd e
   host_exec job (Refused reason) e rose = absurd e
 
   pub host_end : (end : End) (o : Option Job) → EndsBy o call end → call.host_before < call.host_after → end ≡ ReadFault
   host_end end o e rose =
-      by_job (end ≡ ReadFault) end o (λ i. let calm = i.1.calm in absurd (omega (arith, calm, rose))) (λ job r. host_run job.file end r rose) (λ job x. host_exec job end x rose) e
+      by_job (end ≡ ReadFault) end o (λ i. let calm = i.1.calm in absurd (omega (arith, calm, rose))) (λ job r. host_run job.file end r rose) (λ job x. host_exec job end x rose)
+      (λ job k. host_check job.file call end k rose) e
 
   out_run : (file : List ℕ) (end : End) → EndsRun file call end → call.out_before < call.out_after → end ≡ WriteFault
   out_run file (Ran over) e rose = let calm = e.1 in absurd (omega (arith, calm, rose))
   out_run file WriteFault e rose = refl
   out_run file ReadFault e rose = let calm = e.1.calm in absurd (omega (arith, calm, rose))
-  out_run file (Refused reason) e rose = let calm = e.2.calm in absurd (omega (arith, calm, rose))
+  out_run file (Refused Other) e rose = let calm = e.2.calm in absurd (omega (arith, calm, rose))
+  out_run file (Refused (Text reason)) e rose = absurd e
   out_run file NoMemory e rose = let calm = e.1.calm in absurd (omega (arith, calm, rose))
+  out_run file Made e rose = absurd e
   out_run file Words e rose = absurd e
   out_run file (BadImage fault) e rose = absurd e
 
@@ -182,12 +191,14 @@ module _ (call : Call) where
   out_exec job ReadFault e rose = let calm = e.1.calm in absurd (omega (arith, calm, rose))
   out_exec job (BadImage fault) e rose = let calm = e.2.calm in absurd (omega (arith, calm, rose))
   out_exec job NoMemory e rose = absurd (neither e.1 (λ n. let calm = n.calm in omega (arith, calm, rose)) (λ r. let calm = r.1.ran.1 in omega (arith, calm, rose)))
+  out_exec job Made e rose = absurd e
   out_exec job Words e rose = absurd e
   out_exec job (Refused reason) e rose = absurd e
 
   pub out_end : (end : End) (o : Option Job) → EndsBy o call end → call.out_before < call.out_after → end ≡ WriteFault
   out_end end o e rose =
-      by_job (end ≡ WriteFault) end o (λ i. let calm = i.2.calm in absurd (omega (arith, calm, rose))) (λ job r. out_run job.file end r rose) (λ job x. out_exec job end x rose) e
+      by_job (end ≡ WriteFault) end o (λ i. let calm = i.2.calm in absurd (omega (arith, calm, rose))) (λ job r. out_run job.file end r rose) (λ job x. out_exec job end x rose)
+      (λ job k. out_check job.file call end k rose) e
 
   -- ---- texts and images
 
@@ -198,6 +209,8 @@ module _ (call : Call) where
     refused_run ReadFault e none_has = inr (inl refl)
     refused_run (Refused Other) e none_has = inl refl
     refused_run NoMemory e none_has = inr (inr refl)
+    refused_run Made e none_has = absurd e
+    refused_run (Refused (Text reason)) e none_has = absurd e
     refused_run Words e none_has = absurd e
     refused_run (BadImage fault) e none_has = absurd e
 
@@ -206,8 +219,10 @@ module _ (call : Call) where
     complete_run form (Ran over) e f calm calm' = inl (ap Ran e.0)
     complete_run form WriteFault e f calm calm' = absurd (calm' e.0)
     complete_run form ReadFault e f calm calm' = absurd (neither e.0 calm (λ m. not_missing call.told text file is m))
-    complete_run form (Refused reason) e f calm calm' = absurd (e.1 text is form f)
+    complete_run form (Refused Other) e f calm calm' = absurd (e.1 text is form f)
+    complete_run form (Refused (Text reason)) e f calm calm' = absurd e
     complete_run form NoMemory e f calm calm' = inr refl
+    complete_run form Made e f calm calm' = absurd e
     complete_run form Words e f calm calm' = absurd e
     complete_run form (BadImage fault) e f calm calm' = absurd e
 
@@ -221,6 +236,7 @@ module _ (call : Call) where
     refused_exec fault ReadFault e r = inr (inl refl)
     refused_exec fault (BadImage other) e r = let s = e.1 text is in let same : other ≡ fault = cc in inl (ap BadImage same)
     refused_exec fault NoMemory e r = inr (inr refl)
+    refused_exec fault Made e r = absurd e
     refused_exec fault Words e r = absurd e
     refused_exec fault (Refused reason) e r = absurd e
 
@@ -231,6 +247,7 @@ module _ (call : Call) where
     complete_exec image ReadFault e f calm calm' = absurd (neither e.0 calm (λ m. not_missing call.told text job.file is m))
     complete_exec image (BadImage fault) e f calm calm' = absurd (let s = e.1 text is in let again = image_again text image f in cc)
     complete_exec image NoMemory e f calm calm' = inr refl
+    complete_exec image Made e f calm calm' = absurd e
     complete_exec image Words e f calm calm' = absurd e
     complete_exec image (Refused reason) e f calm calm' = absurd e
 
@@ -250,6 +267,14 @@ module _ (call : Call) where
       → (Faulted call.host_before call.host_after → ⊥) → (Faulted call.out_before call.out_after → ⊥) → ((over : Over) × (end ≡ Ran over)) ⊎ (end ≡ NoMemory)
   image_end end o job text image e b mode is f calm calm' = complete_exec job text is image end (ends_exec end o job e b mode) f calm calm'
 
+  pub text_end : (end : End) (o : Option Job) (job : Job) (text : List ℕ) → EndsBy o call end → built o ≡ Some job → job.mode ≡ Check → text_in call.told job.file ≡ Some text → HasProgram text
+      → (Faulted call.host_before call.host_after → ⊥) → (end ≡ Made) ⊎ (end ≡ NoMemory)
+  text_end end o job text e b mode is has calm = complete_check job.file call text is end (ends_check end o job e b mode) has calm
+
+  pub no_text_end : (end : End) (o : Option Job) (job : Job) (text : List ℕ) → EndsBy o call end → built o ≡ Some job → job.mode ≡ Check → text_in call.told job.file ≡ Some text → (HasProgram text → ⊥)
+      → ((r : Reason) × (end ≡ Refused (Text r)) × IsRefused text r) ⊎ ((end ≡ ReadFault) ⊎ (end ≡ NoMemory))
+  no_text_end end o job text e b mode is none_has = refused_check job.file call text is end (ends_check end o job e b mode) none_has
+
   -- ---- ways to end
 
   pub idle_end : (end : End) (o : Option Job) → EndsIdle call end → built o ≡ None → EndsBy o call end
@@ -259,10 +284,10 @@ module _ (call : Call) where
       on : (mode : Mode) → cond (is_built mode) (Some job) None ≡ None → EndsIn mode job call end
       on Run is = absurd (cc)
       on Exec is = absurd (cc)
+      on Check is = absurd (cc)
       on Replay is = i
       on Recorded is = i
       on Build is = i
-      on Check is = i
       on Sample is = i
       on Race is = i
       on Step is = i
@@ -276,10 +301,10 @@ module _ (call : Call) where
       on : (mode : Mode) → EndsIn mode job call NoMemory
       on Run = (inl i.1, i.2)
       on Exec = (i.1.calm, inl i.2)
+      on Check = (i.1.calm, i.2)
       on Replay = i
       on Recorded = i
       on Build = i
-      on Check = i
       on Sample = i
       on Race = i
       on Step = i
@@ -289,20 +314,26 @@ module _ (call : Call) where
   mode_end end o job is e = let P : Option Job → Type 0 = λ o. EndsBy o call end in subst P (sym is) e
 
   -- the modes that are yet to come
-  pub rest_in : (end : End) (mode : Mode) (job : Job) → (mode ≡ Run → ⊥) → (mode ≡ Exec → ⊥) → EndsIdle call end → EndsIn mode job call end
-  rest_in end Run job a b i = absurd (a refl)
-  rest_in end Exec job a b i = absurd (b refl)
-  rest_in end Replay job a b i = i
-  rest_in end Recorded job a b i = i
-  rest_in end Build job a b i = i
-  rest_in end Check job a b i = i
-  rest_in end Sample job a b i = i
-  rest_in end Race job a b i = i
-  rest_in end Step job a b i = i
-  rest_in end Link job a b i = i
+  pub rest_in : (end : End) (mode : Mode) (job : Job) → (mode ≡ Run → ⊥) → (mode ≡ Exec → ⊥) → (mode ≡ Check → ⊥) → EndsIdle call end → EndsIn mode job call end
+  rest_in end Run job a b c i = absurd (a refl)
+  rest_in end Exec job a b c i = absurd (b refl)
+  rest_in end Check job a b c i = absurd (c refl)
+  rest_in end Replay job a b c i = i
+  rest_in end Recorded job a b c i = i
+  rest_in end Build job a b c i = i
+  rest_in end Sample job a b c i = i
+  rest_in end Race job a b c i = i
+  rest_in end Step job a b c i = i
+  rest_in end Link job a b c i = i
 
   pub run_end : (end : End) (o : Option Job) (job : Job) (file : List ℕ) → o ≡ Some job → job.mode ≡ Run → file ≡ job.file → EndsRun file call end → EndsBy o call end
   run_end end o job file is mode named e =
       let F : List ℕ → Type 0 = λ file. EndsRun file call end in
+      let M : Mode → Type 0 = λ mode. EndsIn mode job call end in
+      mode_end end o job is (subst M (sym mode) (subst F named e))
+
+  pub check_end : (end : End) (o : Option Job) (job : Job) (file : List ℕ) → o ≡ Some job → job.mode ≡ Check → file ≡ job.file → EndsCheck file call end → EndsBy o call end
+  check_end end o job file is mode named e =
+      let F : List ℕ → Type 0 = λ file. EndsCheck file call end in
       let M : Mode → Type 0 = λ mode. EndsIn mode job call end in
       mode_end end o job is (subst M (sym mode) (subst F named e))

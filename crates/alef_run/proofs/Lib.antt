@@ -1,5 +1,6 @@
 pub mod Between
 pub mod Causes
+pub mod Checks
 pub mod Execs
 pub mod Jobs
 pub mod Lines

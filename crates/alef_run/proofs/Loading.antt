@@ -1,4 +1,4 @@
--- The reading of an image, piece by piece.
+-- The reading of an image or a text, piece by piece.
 use Rattle.std.proofs.Common.{◌≡◌, ℕ, ◌<◌, ◌≤◌, List, [], ◌∷◌, ◌++◌, length, take, drop, Option, Some, None, Err, refl, sym, ap, ap₂, ◌∙◌, subst, arith, append_assoc, append-nil, inl, inr}
 use Rattle.std.specs.Prelude.{◌⊎◌}
 use Rattle.std.proofs.lemmas.List.{take_all, drop_all, take-append-drop, drop_at}
@@ -101,3 +101,15 @@ spells text bytes image e is =
     let P : List ℕ → Type 0 = λ bytes. IsImage bytes image in
     let front : IsImage (take (enough_of text) text) image = subst P e is in
     subst P ((suffices text).whole image front) front
+
+-- ---- a text
+
+pub text_loaded : (name : List ℕ) (o o1 o2 : Option Content) (none bytes : List ℕ) (most : ℕ) → none ≡ [] → WhereTold (Finds name) o o1 → WhereTold (ReadsOn most none bytes) o1 o2
+    → (text : List ℕ) → text_in o name ≡ Some text → (bytes ≡ take most text) × LeavesRest (drop most text) o2
+text_loaded name (Some a) (Some b) (Some c) none bytes most z f r text is =
+    let found : text ≡ b.left = same_text _ _ _ is f.text in
+    let read : bytes ≡ r.part = r.bytes ∙ ap (λ (l : List ℕ). l ++ r.part) z in
+    front_is most text bytes c.left (found ∙ r.left ∙ ap (λ (l : List ℕ). l ++ c.left) (sym read)) r.within r.end
+text_loaded name None o1 o2 none bytes most z f r text is = absurd (cc)
+text_loaded name (Some a) None o2 none bytes most z f r text is = absurd f
+text_loaded name (Some a) (Some b) None none bytes most z f r text is = absurd r

@@ -18,7 +18,7 @@ use Rattle.alef_run.specs.Build.{IsRunOf}
 use Rattle.alef_run.specs.Call.{Call, IsRead, WasRead, DidNothing, LacksText, LeavesRest, text_in}
 use Rattle.alef_run.specs.RunMode.{EndsRun, DidRun, HasNoForm, most_of_form, first_entry}
 use Rattle.alef_run.specs.declared.report.End.{End}
-use Rattle.alef_run.specs.declared.report.End.TheVariants.{Ran, Words, ReadFault, Refused, BadImage, WriteFault, NoMemory}
+use Rattle.alef_run.specs.declared.report.End.TheVariants.{Ran, Made, Words, ReadFault, Refused, BadImage, WriteFault, NoMemory}
 use Rattle.alef_run.specs.declared.report.Refused.TheVariants.{Form as Another}
 use Rattle.alef_run.proofs.Whole.{form_of_whole, no_form_of_whole}
 
@@ -63,6 +63,7 @@ finished file call form output (Ran over) e ran w =
     let P : List ℕ → Type 0 = λ out. WhereTold (GetsAll out) call.got_before call.got_after in (w.0, w.2, (form, ran, subst P e w.1))
 finished file call form output WriteFault e ran w =
     let P : List ℕ → Type 0 = λ out. WhereTold (GetsPart out) call.got_before call.got_after in (w.1, (form, ran, subst P e w.0))
+finished file call form output Made e ran w = absurd w
 finished file call form output Words e ran w = absurd w
 finished file call form output ReadFault e ran w = absurd w
 finished file call form output (Refused reason) e ran w = absurd w

@@ -1,12 +1,21 @@
 -- Facts of what an object tells, before and after calls.
-use Rattle.std.proofs.Common.{◌≡◌, ℕ, zero, suc, ◌+◌, ◌-◌, ◌<◌, ◌≤◌, List, [], ◌∷◌, ◌++◌, length, take, drop, Option, Some, None, refl, sym, ap, ap₂, ◌∙◌, arith, append_assoc, length-append, subst}
+use Rattle.std.proofs.Common.{◌≡◌, ℕ, zero, suc, ◌+◌, ◌-◌, ◌<◌, ◌≤◌, List, [], ◌∷◌, ◌++◌, length, take, drop, Option, Some, None, refl, sym, ap, ap₂, ◌∙◌, arith, append_assoc, length-append, subst, inl, inr}
+use Rattle.std.specs.Prelude.{◌⊎◌}
 use Rattle.std.proofs.lemmas.List.{length-drop, length-take-le, take-append-le, take_all, drop-drop, drop_at, drop_all}
 use Rattle.std.proofs.lemmas.Slice.{take-put_mid_below}
 use Rattle.alef_run.specs.Outside.{FillsFront}
 use Rattle.al_host.specs.Outside.{Finds, Reads, Gets}
-use Rattle.alef_run.specs.Call.{LeavesRest, text_in}
+use Rattle.alef_run.specs.Call.{LacksText, LeavesRest, text_in}
 use borrow.Rule.Slice.PartMut.{put_mid, post_of}
 use Rattle.al_host.specs.Outside.{Content, WhereTold}
+
+pub neither : {A B : Type 0} → A ⊎ B → (A → ⊥) → (B → ⊥) → ⊥
+neither (inl a) f g = f a
+neither (inr b) f g = g b
+
+pub not_missing : (told : Option Content) (text file : List ℕ) → text_in told file ≡ Some text → LacksText told file → ⊥
+not_missing None text file is lacks = lacks
+not_missing (Some content) text file is lacks = cc
 
 same_text : {A : Type 0} (o : Option A) (a b : A) → o ≡ Some a → o ≡ Some b → a ≡ b
 same_text o a b e f = cc

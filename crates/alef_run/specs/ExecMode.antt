@@ -9,7 +9,7 @@ use Rattle.al_core.specs.History.{History, work_of}
 use Rattle.alef_run.specs.Call.{Call, WasRead, DidNothing, HostFails, text_in}
 use Rattle.alef_run.specs.Rounds.{history_along, IsLegal, RanTo}
 use Rattle.alef_run.specs.declared.report.End.{End}
-use Rattle.alef_run.specs.declared.report.End.TheVariants.{Ran, Words, ReadFault, Refused, BadImage, WriteFault, NoMemory}
+use Rattle.alef_run.specs.declared.report.End.TheVariants.{Ran, Made, Words, ReadFault, Refused, BadImage, WriteFault, NoMemory}
 
 -- what an image comes to along the schedule of a call
 abbrev pub comes_to : Contents → Job → Call → History
@@ -37,5 +37,6 @@ EndsExec job call NoMemory = (call.host_after ≡ call.host_before) × (DidNothi
 EndsExec job call ReadFault = HostFails job.file call.told call.host_before call.host_after × DidNothing call
 EndsExec job call (BadImage fault) =
     WasRead job.file enough_of call × ((text : List ℕ) → text_in call.told job.file ≡ Some text → reading text ≡ Err fault) × DidNothing call
+EndsExec job call Made = ⊥
 EndsExec job call Words = ⊥
 EndsExec job call (Refused reason) = ⊥

@@ -1,5 +1,6 @@
 pub mod Build
 pub mod Call
+pub mod CheckMode
 pub mod ExecMode
 pub mod Line
 pub mod Load
@@ -8,4 +9,5 @@ pub mod Outside
 pub mod Rounds
 pub mod RunMode
 pub mod Status
+pub mod TextLine
 pub mod Write

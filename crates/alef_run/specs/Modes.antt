@@ -9,6 +9,7 @@ use Rattle.al_core.specs.History.{line_of}
 use Rattle.alef_run.specs.Call.{Call, IsUnread, DidNothing}
 use Rattle.alef_run.specs.RunMode.{EndsRun}
 use Rattle.alef_run.specs.ExecMode.{EndsExec, comes_to}
+use Rattle.alef_run.specs.CheckMode.{EndsCheck}
 use Rattle.alef_run.specs.declared.report.End.{End}
 use Rattle.alef_run.specs.declared.report.End.TheVariants.{Words, NoMemory}
 
@@ -16,10 +17,10 @@ use Rattle.alef_run.specs.declared.report.End.TheVariants.{Words, NoMemory}
 abbrev pub is_built : Mode → Bool
 is_built Run = true
 is_built Exec = true
+is_built Check = true
 is_built Replay = false
 is_built Recorded = false
 is_built Build = false
-is_built Check = false
 is_built Sample = false
 is_built Race = false
 is_built Step = false
@@ -40,10 +41,10 @@ EndsIdle call end = ((end ≡ Words) ⊎ (end ≡ NoMemory)) × IsUnread call ×
 abbrev pub EndsIn : Mode → Job → Call → End → Type 0
 EndsIn Run job call end = EndsRun job.file call end
 EndsIn Exec job call end = EndsExec job call end
+EndsIn Check job call end = EndsCheck job.file call end
 EndsIn Replay job call end = EndsIdle call end
 EndsIn Recorded job call end = EndsIdle call end
 EndsIn Build job call end = EndsIdle call end
-EndsIn Check job call end = EndsIdle call end
 EndsIn Sample job call end = EndsIdle call end
 EndsIn Race job call end = EndsIdle call end
 EndsIn Step job call end = EndsIdle call end

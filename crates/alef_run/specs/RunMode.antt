@@ -12,7 +12,8 @@ use Rattle.rv_hart.specs.Run.{run, task_start}
 use Rattle.alef_run.specs.Call.{Call, WasRead, IsUnread, DidNothing, HostFails, text_in}
 use Rattle.alef_run.specs.Outside.{GetsAll, GetsPart}
 use Rattle.alef_run.specs.declared.report.End.{End}
-use Rattle.alef_run.specs.declared.report.End.TheVariants.{Ran, Words, ReadFault, Refused, BadImage, WriteFault, NoMemory}
+use Rattle.alef_run.specs.declared.report.Refused.TheVariants as because
+use Rattle.alef_run.specs.declared.report.End.TheVariants.{Ran, Made, Words, ReadFault, Refused, BadImage, WriteFault, NoMemory}
 
 -- no text of that name has a form
 abbrev pub HasNoForm : List ℕ → Type 0
@@ -46,8 +47,10 @@ EndsRun file call WriteFault =
     Faulted call.out_before call.out_after
     × ((form : Form) × DidRun file form call × WhereTold (GetsPart (output_of form)) call.got_before call.got_after)
 EndsRun file call ReadFault = HostFails file call.told call.host_before call.host_after × DidNothing call
-EndsRun file call (Refused reason) =
+EndsRun file call (Refused because.Form) =
     WasRead file most_of_form call × ((text : List ℕ) → text_in call.told file ≡ Some text → HasNoForm text) × DidNothing call
 EndsRun file call NoMemory = (IsUnread call ⊎ WasRead file most_of_form call) × DidNothing call
+EndsRun file call (Refused (because.Text reason)) = ⊥
+EndsRun file call Made = ⊥
 EndsRun file call Words = ⊥
 EndsRun file call (BadImage fault) = ⊥

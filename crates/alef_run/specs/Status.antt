@@ -1,14 +1,15 @@
 -- The exit status and the log's line of an end.
-use Rattle.std.specs.Prelude.{ℕ, zero, suc, ◌+◌, ℤ, pos, negsuc, List, ◌++◌, codes, unsigned_abs}
+use Rattle.std.specs.Prelude.{ℕ, zero, suc, ◌+◌, ℤ, pos, negsuc, List, [], ◌++◌, codes, unsigned_abs}
 use Rattle.std.specs.Int.{int_rem_euclid}
 use Rattle.al_base.specs.declared.over.Over.TheVariants.{Done, Stopped, Trapped, Blocked, Spent}
 use Rattle.al_base.specs.Line.{line_of}
 use Rattle.rv_image.specs.declared.fault.ImageFault.{ImageFault}
 use Rattle.rv_image.specs.declared.fault.ImageFault.TheVariants.{Short, Magic, Version, Count, Extra}
 use Rattle.alef_run.specs.Line.{naming}
+use Rattle.alef_run.specs.TextLine.{text_line}
 use Rattle.alef_run.specs.declared.report.End.{End}
-use Rattle.alef_run.specs.declared.report.End.TheVariants.{Ran, Words, ReadFault, Refused, BadImage, WriteFault, NoMemory}
-use Rattle.alef_run.specs.declared.report.Refused.TheVariants.{Form}
+use Rattle.alef_run.specs.declared.report.End.TheVariants.{Ran, Made, Words, ReadFault, Refused, BadImage, WriteFault, NoMemory}
+use Rattle.alef_run.specs.declared.report.Refused.TheVariants.{Form, Text}
 
 -- the status of a program that stopped itself: 0 stays, all others show the lowest seven bits
 abbrev pub stopped : ℤ → ℕ
@@ -23,6 +24,7 @@ status_of (Ran (Stopped status)) = stopped status
 status_of (Ran (Trapped trap proc at)) = 5
 status_of (Ran Blocked) = 6
 status_of (Ran Spent) = 7
+status_of Made = 0
 status_of Words = 2
 status_of ReadFault = 3
 status_of (Refused reason) = 1
@@ -41,10 +43,12 @@ image_line Extra = codes "alef: image Extra\n"
 abbrev pub line_of_end : (line : ℕ) → End → List ℕ
 line_of_end line (Ran (Trapped trap proc at)) = naming line (line_of (Trapped trap proc at))
 line_of_end line (Ran over) = line_of over
+line_of_end line Made = []
 line_of_end line Words =
     codes "alef: usage: alef MODE [FILE [SCHEDULE]] [--workers N] [--entries N] [--region N] [--number N]\n"
 line_of_end line ReadFault = codes "alef: cannot read\n"
 line_of_end line (Refused Form) = codes "alef: another form\n"
+line_of_end line (Refused (Text reason)) = text_line reason
 line_of_end line (BadImage fault) = image_line fault
 line_of_end line WriteFault = codes "alef: cannot write\n"
 line_of_end line NoMemory = codes "alef: out of memory\n"

@@ -4,12 +4,13 @@ use Rattle.al_base.specs.declared.over.Over.TheVariants.{Done}
 use Rattle.al_host.specs.Outside.{Faulted, WhereTold}
 use Rattle.alef_run.specs.Outside.{GetsAll, GetsPart}
 use Rattle.alef_run.specs.declared.report.End.{End}
-use Rattle.alef_run.specs.declared.report.End.TheVariants.{Ran, Words, ReadFault, Refused, BadImage, WriteFault, NoMemory}
+use Rattle.alef_run.specs.declared.report.End.TheVariants.{Ran, Made, Words, ReadFault, Refused, BadImage, WriteFault, NoMemory}
 
 -- all of the output went out, or a first part of it and there was a fault
 abbrev pub MatchesWrite : List ℕ → End → Option (List ℕ) → Option (List ℕ) → ℕ → ℕ → Type 0
 MatchesWrite output (Ran over) before after faults faults' = (over ≡ Done) × WhereTold (GetsAll output) before after × (faults' ≡ faults)
 MatchesWrite output WriteFault before after faults faults' = WhereTold (GetsPart output) before after × Faulted faults faults'
+MatchesWrite output Made before after faults faults' = ⊥
 MatchesWrite output Words before after faults faults' = ⊥
 MatchesWrite output ReadFault before after faults faults' = ⊥
 MatchesWrite output (Refused reason) before after faults faults' = ⊥

@@ -12,12 +12,16 @@ ghost use Rattle.rv_isa.specs.declared.image.Contents.{Contents};
 ghost use Rattle.rv_image.specs.declared.fault.ImageFault.{ImageFault};
 ghost use Rattle.rv_image.specs.Spelling.{IsImage};
 ghost use Rattle.rv_image.specs.Reading.{reading};
-ghost use Rattle.alef_run.specs.declared.report.Refused.TheVariants.{Form as Another};
+ghost use Rattle.al_front.specs.Accepted.{IsRefused};
+ghost use Rattle.al_front.specs.declared.refused.Refused.{Refused as Reason};
+ghost use Rattle.alef_run.specs.declared.report.Refused.TheVariants as because;
 ghost use Rattle.alef_run.specs.Status.{status_of, line_of_end};
 ghost use Rattle.alef_run.specs.Call.{LogGets, LacksText, text_in, call_by};
 ghost use Rattle.alef_run.specs.RunMode.{HasNoForm};
+ghost use Rattle.alef_run.specs.CheckMode.{HasProgram};
 ghost use Rattle.alef_run.specs.Modes.{Ends, job_by, line_in};
 
+use crate::check::check;
 use crate::exec::exec;
 use crate::first_form::run;
 use crate::outside::write_all;
@@ -47,6 +51,7 @@ fn serve<H: Host, K: Sink>(
     match job.mode {
         Mode::Run => (run(alloc, job.file.as_str(), host, out), 0),
         Mode::Exec => exec(alloc, &job, host, out),
+        Mode::Check => (check(alloc, job.file.as_str(), host), 0),
         // the other modes are yet to come
         _ => (Report::nothing(alloc, End::Words), 0),
     }
@@ -64,8 +69,9 @@ fn write_line<L: Sink>(end: &End, line: u32, log: &mut L)
 }
 
 /// The command `alef`. `run FILE` reads the text of that name, makes its code words, runs them and writes what they print;
-/// `exec IMAGE` reads the image of that name, runs it on this thread and writes what it puts out. It says what it did, and writes
-/// a line to the log where it did not end well.
+/// `exec IMAGE` reads the image of that name, runs it on this thread and writes what it puts out; `check FILE` reads the text of
+/// that name and says whether it is accepted, within the limits. It says what it did, and writes a line to the log where it did
+/// not end well.
 pub fn alef<R: Threads + Wait + Sync, H: Host, K: Sink, L: Sink>(
     _rt: &R,
     alloc: Global,
@@ -88,12 +94,16 @@ pub fn alef<R: Threads + Wait + Sync, H: Host, K: Sink, L: Sink>(
     ensures out_fault { K.faults out.old < K.faults out.new → result.end ≡ End.WriteFault }
     ensures not_a_form { (job : Job) (text : List ℕ) → job_by (map (λ word. word.now) words.now) ≡ Some job → job.mode ≡ Mode.Run
         → text_in (H.content host.old) job.file ≡ Some text → HasNoForm text
-        → (result.end ≡ End.Refused Another) ⊎ ((result.end ≡ End.ReadFault) ⊎ (result.end ≡ End.NoMemory)) }
+        → (result.end ≡ End.Refused because.Form) ⊎ ((result.end ≡ End.ReadFault) ⊎ (result.end ≡ End.NoMemory)) }
     ensures no_image { (job : Job) (text : List ℕ) (fault : ImageFault) → job_by (map (λ word. word.now) words.now) ≡ Some job → job.mode ≡ Mode.Exec
         → text_in (H.content host.old) job.file ≡ Some text → reading text ≡ Err fault
         → (result.end ≡ End.BadImage fault) ⊎ ((result.end ≡ End.ReadFault) ⊎ (result.end ≡ End.NoMemory)) }
+    ensures check_refused { (job : Job) (text : List ℕ) → job_by (map (λ word. word.now) words.now) ≡ Some job → job.mode ≡ Mode.Check
+        → text_in (H.content host.old) job.file ≡ Some text → ¬ (HasProgram text)
+        → ((reason : Reason) × (result.end ≡ End.Refused (because.Text reason)) × IsRefused text reason) ⊎ ((result.end ≡ End.ReadFault) ⊎ (result.end ≡ End.NoMemory)) }
 
-    // A text of the first form and an image run to their end, unless the world outside has a fault or memory runs out.
+    // A text of the first form and an image run to their end, and a text that is accepted within the limits is found to be so,
+    // unless the world outside has a fault or memory runs out.
     ensures run { (job : Job) (text : List ℕ) (form : Form) → job_by (map (λ word. word.now) words.now) ≡ Some job → job.mode ≡ Mode.Run
         → text_in (H.content host.old) job.file ≡ Some text → IsForm text form
         → ¬ (Faulted (H.faults host.old) (H.faults host.new)) → ¬ (Faulted (K.faults out.old) (K.faults out.new))
@@ -102,6 +112,9 @@ pub fn alef<R: Threads + Wait + Sync, H: Host, K: Sink, L: Sink>(
         → text_in (H.content host.old) job.file ≡ Some text → IsImage text image
         → ¬ (Faulted (H.faults host.old) (H.faults host.new)) → ¬ (Faulted (K.faults out.old) (K.faults out.new))
         → ((over : Ending) × (result.end ≡ End.Ran over)) ⊎ (result.end ≡ End.NoMemory) }
+    ensures check { (job : Job) (text : List ℕ) → job_by (map (λ word. word.now) words.now) ≡ Some job → job.mode ≡ Mode.Check
+        → text_in (H.content host.old) job.file ≡ Some text → HasProgram text → ¬ (Faulted (H.faults host.old) (H.faults host.new))
+        → (result.end ≡ End.Made) ⊎ (result.end ≡ End.NoMemory) }
 {
     let (report, line) = serve(alloc, words, host, out);
     write_line(&report.end, line, log);

@@ -3,11 +3,13 @@
 
 mod build;
 mod call;
+mod check;
 mod exec;
 mod first_form;
 mod line;
 mod load;
 mod outside;
+mod refusal;
 mod report;
 mod rounds;
 

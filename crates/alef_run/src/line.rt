@@ -1,4 +1,4 @@
-//! The log's line of a trap, with the line of the text in which it came.
+//! Lines of the log piece by piece, and that of a trap, with the line of the text in which it came.
 
 ghost use Rattle.std.specs.Prelude.{◌≡◌, ◌+◌, ◌≤◌, ◌++◌, length, take, decimal};
 ghost use Rattle.al_base.specs.declared.over.Over.TheVariants as Over;
@@ -10,7 +10,7 @@ use al_base::{Over, Trap, over_line};
 use itoa::Buffer;
 
 /// Writes a piece of text into a line from the byte `at` on, and gives the byte after it.
-fn put(line: &mut [u8], at: usize, piece: &[u8]) -> usize
+pub(crate) fn put(line: &mut [u8], at: usize, piece: &[u8]) -> usize
     requires { at + length piece.now ≤ length line.old }
     ensures end { result ≡ at + length piece.now }
     ensures text { take result line.new ≡ take at line.old ++ piece.now }
@@ -21,10 +21,21 @@ fn put(line: &mut [u8], at: usize, piece: &[u8]) -> usize
 }
 
 /// Writes a number in decimal digits, of which there are at most ten.
-fn put_number(line: &mut [u8], at: usize, number: u32) -> usize
+pub(crate) fn put_number(line: &mut [u8], at: usize, number: u32) -> usize
     requires { at + 10 ≤ length line.old }
     ensures end { result ≡ at + length (decimal number) }
     ensures short { result ≤ at + 10 }
+    ensures text { take result line.new ≡ take at line.old ++ decimal number }
+{
+    let mut digits = Buffer::new();
+    put(line, at, digits.format(number).as_bytes())
+}
+
+/// Writes a longer number in decimal digits, of which there are at most twenty.
+pub(crate) fn put_long(line: &mut [u8], at: usize, number: u64) -> usize
+    requires { at + 20 ≤ length line.old }
+    ensures end { result ≡ at + length (decimal number) }
+    ensures short { result ≤ at + 20 }
     ensures text { take result line.new ≡ take at line.old ++ decimal number }
 {
     let mut digits = Buffer::new();

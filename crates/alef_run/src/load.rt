@@ -5,7 +5,8 @@ ghost use Rattle.al_host.specs.Outside.{Faulted, WhereTold};
 ghost use Rattle.rv_image.specs.Spelling.{IsImage};
 ghost use Rattle.rv_image.specs.Front.{enough_of};
 ghost use Rattle.alef_run.specs.Call.{IsRead, text_in, LacksText, LeavesRest};
-ghost use Rattle.alef_run.specs.Load.{ReadsOn, StopsReading, LacksImage};
+ghost use Rattle.alef_run.specs.CheckMode.{most_of_text};
+ghost use Rattle.alef_run.specs.Load.{ReadsOn, StopsReading, LacksBytes, LacksImage};
 
 use crate::outside::read_front;
 use crate::report::End;
@@ -18,7 +19,10 @@ use std::alloc::Global;
 /// So many bytes of an image say how many more there are to be.
 const HEADER_BYTES: usize = 36;
 
-/// An image is read in pieces of so many bytes.
+/// A text is read to its end, or to one byte past the most that it may have.
+const MOST_OF_TEXT: usize = (1 << 20) + 1;
+
+/// A text or an image is read in pieces of so many bytes.
 const PIECE: usize = 4096;
 
 /// Reads the text of that name to its end, or to the end of a buffer, and says how much that is.
@@ -60,6 +64,21 @@ fn read_on<H: Host>(host: &mut H, bytes: &mut Vec<u8>, most: usize) -> Result<()
         }
     }
     Ok(())
+}
+
+/// Reads the text of that name: all of it, or one byte more than it may have.
+pub(crate) fn load_text<H: Host>(alloc: Global, host: &mut H, name: &str) -> Result<Vec<u8>, End>
+    ensures read { OnOk result (IsRead name.now most_of_text (H.content host.old) (H.content host.new) (H.faults host.old) (H.faults host.new)) }
+    ensures text { IfOk result (λ bytes. (text : List ℕ) → text_in (H.content host.old) name.now ≡ Some text → bytes.items ≡ take (most_of_text text) text) }
+    ensures none { IfErr result (λ end. LacksBytes name.now end (H.content host.old) (H.faults host.old) (H.faults host.new)) }
+{
+    match host.find(name) {
+        Ok(()) => (),
+        Err(_) => return Err(End::ReadFault),
+    }
+    let mut bytes = Vec::new(alloc);
+    read_on(host, &mut bytes, MOST_OF_TEXT)?;
+    Ok(bytes)
 }
 
 /// Reads the image of that name: as many bytes as tell which image it is.

@@ -2,6 +2,7 @@ ghost use Rattle.std.specs.Prelude.{◌≡◌, ◌≤◌, [], None, take};
 ghost use Rattle.alef_run.specs.Status.{stopped, status_of, image_line, line_of_end};
 
 use crate::line::trap_line;
+use crate::refusal::text_line;
 use al_base::{Over, over_line};
 use al_event::Entry;
 use al_items::Items;
@@ -13,8 +14,10 @@ use std::sync::Arc;
 /// Why a text was refused.
 #[derive(Clone, Copy, Debug, PartialEq, Eq)]
 pub enum Refused {
-    /// It is of another form.
+    /// It is of another form than `run` takes. This goes when `run` takes whole texts.
     Form,
+    /// It is not accepted, or passes a limit.
+    Text(al_front::Refused),
 }
 
 /// How a call ended.
@@ -22,6 +25,8 @@ pub enum Refused {
 pub enum End {
     /// The program ran, and was over like this.
     Ran(Over),
+    /// What was asked for was done, and it was no run: the text is accepted, within the limits.
+    Made,
     /// The words are no job.
     Words,
     /// The host did not give the text or the image.
@@ -93,6 +98,7 @@ pub(crate) fn status_of(end: &End) -> u8
         End::Ran(Over::Trapped { .. }) => 5,
         End::Ran(Over::Blocked) => 6,
         End::Ran(Over::Spent) => 7,
+        End::Made => 0,
         End::Words => 2,
         End::ReadFault => 3,
         End::Refused(_) => 1,
@@ -135,11 +141,16 @@ pub(crate) fn line_of<'a>(end: &End, line: u32, buf: &'a mut [u8; 80]) -> &'a [u
             let len = run_line(over, line, buf);
             &buf[..len]
         }
+        End::Made => b"",
         End::Words => {
             b"alef: usage: alef MODE [FILE [SCHEDULE]] [--workers N] [--entries N] [--region N] [--number N]\n"
         }
         End::ReadFault => b"alef: cannot read\n",
         End::Refused(Refused::Form) => b"alef: another form\n",
+        End::Refused(Refused::Text(reason)) => {
+            let len = text_line(buf, *reason);
+            &buf[..len]
+        }
         End::BadImage(fault) => image_line(*fault),
         End::WriteFault => b"alef: cannot write\n",
         End::NoMemory => b"alef: out of memory\n",

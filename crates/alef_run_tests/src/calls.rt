@@ -11,11 +11,11 @@ use std::sync::Wait;
 use std::test::Fail;
 use std::thread::Threads;
 
-const USAGE: &str =
+pub(super) const USAGE: &str =
     "alef: usage: alef MODE [FILE [SCHEDULE]] [--workers N] [--entries N] [--region N] [--number N]\n";
 
 /// A host that has these bytes under `a`, and whose calls of these numbers fail.
-fn host_of(alloc: Global, bytes: &[u8], fail: &[u64]) -> Result<MemHost, Fail> {
+pub(super) fn host_of(alloc: Global, bytes: &[u8], fail: &[u64]) -> Result<MemHost, Fail> {
     let mut files = Vec::new(alloc);
     files.push((
         String::from_str(alloc, "a")?,
@@ -25,7 +25,7 @@ fn host_of(alloc: Global, bytes: &[u8], fail: &[u64]) -> Result<MemHost, Fail> {
 }
 
 /// A sink that takes so many bytes at a time, and whose writes of these numbers fail.
-fn sink(alloc: Global, most: u32, fail: &[u64]) -> Result<MemSink, Fail>
+pub(super) fn sink(alloc: Global, most: u32, fail: &[u64]) -> Result<MemSink, Fail>
     requires { 1 ≤ most }
 {
     let fail = Vec::from_slice(alloc, fail)?;
@@ -43,17 +43,17 @@ fn bytes_of(alloc: Global, numbers: &[u32]) -> Result<Vec<u8>, Fail> {
 
 /// A call: its words, and what is to come of it.
 #[derive(Clone, Copy)]
-struct Want<'a> {
-    words: &'a [&'a str],
-    end: End,
-    status: u8,
-    entries: usize,
-    out: &'a str,
-    log: &'a str,
+pub(super) struct Want<'a> {
+    pub(super) words: &'a [&'a str],
+    pub(super) end: End,
+    pub(super) status: u8,
+    pub(super) entries: usize,
+    pub(super) out: &'a str,
+    pub(super) log: &'a str,
 }
 
 /// Makes a call where these bytes stand under `a`, and compares.
-fn compare<R: Threads + Wait + Sync + Abort>(
+pub(super) fn compare<R: Threads + Wait + Sync + Abort>(
     rt: &R,
     alloc: Global,
     bytes: &[u8],
@@ -162,7 +162,7 @@ const TEXTS: [(&str, Want<'static>); 9] = [
     (
         "void main(){}",
         Want {
-            words: &["check", "a"],
+            words: &["build", "a"],
             ..NO_JOB
         },
     ),

@@ -1,4 +1,4 @@
-use Rattle.alef_run.proofs.Causes.{words_cause, words_end, missing_end, host_end, out_end, refused_end, no_image_end, complete_end, image_end}
+use Rattle.alef_run.proofs.Causes.{words_cause, words_end, missing_end, host_end, out_end, refused_end, no_image_end, complete_end, image_end, text_end, no_text_end}
 use Rattle.alef_run.proofs.call.alef.Goals as goal
 
 pub returns-clause-words : goal.returns-clause-words
@@ -27,3 +27,9 @@ returns-clause-run g c = λ job text form. complete_end _ _ _ job text form c.se
 
 pub returns-clause-exec : goal.returns-clause-exec
 returns-clause-exec g c = λ job text image. image_end _ _ _ job text image c.serve-report.ensures.end
+
+pub returns-clause-check_refused : goal.returns-clause-check_refused
+returns-clause-check_refused g c = λ job text. no_text_end _ _ _ job text c.serve-report.ensures.end
+
+pub returns-clause-check : goal.returns-clause-check
+returns-clause-check g c = λ job text. text_end _ _ _ job text c.serve-report.ensures.end

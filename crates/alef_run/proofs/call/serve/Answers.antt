@@ -1,9 +1,13 @@
 use Rattle.alef_run.proofs.Jobs.{job_bounded}
-use Rattle.alef_run.proofs.Causes.{run_end}
+use Rattle.alef_run.proofs.Causes.{run_end, check_end}
 use Rattle.alef_run.proofs.call.serve.Goals as goal
 
 pub returns-in-Run-clause-end : goal.returns-in-Run-clause-end
 returns-in-Run-clause-end g c = run_end _ c.run.result.end _ c.in-Ok.job c.as_str.result.now c.in-Ok.ensures c.in-Run.is c.as_str.ensures c.run.ensures.end
+
+pub returns-in-Check-clause-end : goal.returns-in-Check-clause-end
+returns-in-Check-clause-end g c =
+    check_end _ c.check.result.end _ c.in-Ok.job c.as_str-in-Check.result.now c.in-Ok.ensures c.in-Check.is c.as_str-in-Check.ensures (c.check.ensures.end (g.K.Sink.got c.args.out.now) (g.K.Sink.faults c.args.out.now))
 
 pub exec-requires-clause-some_region : goal.exec-requires-clause-some_region
 exec-requires-clause-some_region g c = (job_bounded _ c.in-Ok.job c.in-Ok.ensures).some_region

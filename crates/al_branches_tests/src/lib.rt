@@ -1,0 +1,5 @@
+//! Tests of al_branches, apart from it so that it is proved once.
+#![tactic(auto)]
+
+#[cfg(test)]
+mod numbers;

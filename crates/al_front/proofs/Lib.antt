@@ -1,0 +1,4 @@
+pub mod Typed
+pub mod Trees
+pub mod Programs
+pub mod Laws
