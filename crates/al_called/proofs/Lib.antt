@@ -1,0 +1,4 @@
+mod Each
+mod ExpressionsAre
+mod StatementsAre
+mod ItemsAre

@@ -1,0 +1,4 @@
+pub mod Rules
+pub mod Expressions
+pub mod Statements
+pub mod Items
