@@ -6,6 +6,7 @@ use Rattle.al_rules.specs.Outcome.{Outcome, Good, Bad, ask, and_then}
 use Rattle.al_typed.specs.declared.program.Program.{Program}
 use Rattle.al_scope.specs.declared.declaration.Scopes.{Scopes}
 use Rattle.al_scope.specs.Items.{resolved}
+use Rattle.al_called.specs.Items.{names_are_called}
 use Rattle.al_poly.specs.declared.instance.Instance.{Instance}
 use Rattle.al_declare.specs.Functions.{functions}
 use Rattle.al_declare.specs.Items.{names_hold}
@@ -74,4 +75,5 @@ with_flows tree is = and_then (resolved tree) (with_names tree is)
 
 -- The typed program of a text that has these instances: its faults are those of the first part that has some.
 unfoldable pub check : Tree → List Instance → Outcome Program
-check tree is = and_then (names_hold tree) (λ _. and_then (all_targets tree.items) (λ _. with_flows tree is))
+check tree is =
+    and_then (names_hold tree) (λ _. and_then (names_are_called tree) (λ _. and_then (all_targets tree.items) (λ _. with_flows tree is)))

@@ -8,6 +8,7 @@ use crate::flow::all_targets;
 use crate::program::whole;
 use al_bodies::{Bodies, bodies};
 use al_build_environment::environment;
+use al_called::names_are_called;
 use al_declare::{ask_names, functions};
 use al_environment::Environment;
 use al_initial::{Initial, initial};
@@ -96,6 +97,7 @@ pub fn check(alloc: Global, tree: &Tree, instances: &Instances) -> Result<Progra
     ensures laid { IfOk result (λ p. IsLaidOut p.aggregates) }
 {
     ask_names(alloc, tree)?;
+    names_are_called(alloc, tree)?;
     all_targets(alloc, tree.items.as_slice())?;
     with_flows(alloc, tree, instances)
 }
