@@ -69,7 +69,9 @@ fn branches_are_numbered_in_text_order_and_by_instances(rt: HostRuntime) -> Resu
             let list = branch_numbers(alloc, tree.items.as_slice(), DEFINED.as_slice())?;
             assert_eq!(rt; list.len(), 5);
             for (k, line, col, number) in TABLE {
-                let found = list.get(k).and_then(|numbers| numbers.number(Place { line, col }));
+                let found = list
+                    .get(k)
+                    .and_then(|numbers| numbers.number(Place { line, col }));
                 assert!(rt; found == number, "{k} {line} {col}: {found:?}");
             }
         }
