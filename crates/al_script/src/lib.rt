@@ -20,10 +20,6 @@ mod talks;
 mod tells;
 mod world;
 
-pub use acts::performs;
-pub use fits::fitted;
 pub use run::{Stop, run_script};
 pub use script::{Call, Choice, Control, Function, Instruction, Operand, Script, Source, Width};
-pub use step::{ended, fits, made_after, task_of};
-pub use tells::{Effect, Message, Told};
 pub use world::{Change, Count, Held, Made, State, World};

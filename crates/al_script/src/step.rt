@@ -53,7 +53,7 @@ fn end_by_lists(procs: &[ProcState]) -> Option<Over>
 }
 
 /// The state after an entry: it may be over now.
-pub fn ended(state: State) -> State
+fn ended(state: State) -> State
     ensures { result ≡ record state { over = over_or state.over (end_by_lists state.procs) } }
 {
     let mut state = state;
@@ -74,7 +74,7 @@ fn line_of(over: Option<Over>, line: u64) -> u64
 }
 
 /// The entries with one more.
-pub fn made_after(
+fn made_after(
     alloc: Global,
     made: Made,
     proc: u32,
@@ -142,7 +142,7 @@ fn branches_in(act: &Act) -> usize
 }
 
 /// Whether an entry brings no number past 32 bits.
-pub fn fits(made: &Made, state: &State, task: TaskName, act: &Act) -> bool
+fn fits(made: &Made, state: &State, task: TaskName, act: &Act) -> bool
     ensures { IsTrue result ↔ Fits (shared_of made.now state.now) task act.now }
 {
     let most = u32::MAX;
@@ -225,7 +225,7 @@ fn step_task(
 }
 
 /// The task whose turn it is by an entry of a proc: the first of its ready list, unless the world is over.
-pub fn task_of(state: &State, proc: u32) -> Option<TaskName>
+fn task_of(state: &State, proc: u32) -> Option<TaskName>
     ensures { (made : Made) → result ≡ task_of (shared_of made state.now) state.now.over proc }
 {
     if state.over.is_some() {
