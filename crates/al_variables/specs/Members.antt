@@ -1,0 +1,17 @@
+-- Members that paths lead to, and that words have room for.
+use Rattle.std.specs.Prelude.{◌≡◌, ℕ, ◌<◌, ◌^◌, List, IsSome}
+use Rattle.al_typed.specs.declared.program.Program.{Program}
+use Rattle.al_typed.specs.declared.ty.Ty.{Ty}
+use Rattle.al_typed.specs.Layout.{member}
+use Rattle.al_meaning.specs.Here.{member_type}
+use Rattle.al_meaning.specs.Places.{path_offset}
+use Rattle.al_variables.specs.declared.members.Part.{Part}
+
+-- a path leads to a member of a type, at an offset that fits
+abbrev pub Leads : Program → Ty → List ℕ → Type 0
+Leads p t path = IsSome (member p.aggregates path t) × (path_offset p t path < 2 ^ 32)
+
+-- the member that it leads to
+pub record IsPart (p : Program) (t : Ty) (path : List ℕ) (part : Part) : Type 0 where
+  pub ty : part.ty.now ≡ member_type p t path
+  pub offset : part.offset ≡ path_offset p t path
