@@ -1,0 +1,4 @@
+pub mod Takings
+pub mod JoinedWords
+pub mod Reversed
+pub mod Lines

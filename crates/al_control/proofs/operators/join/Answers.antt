@@ -1,0 +1,9 @@
+use Rattle.std.proofs.Common.{rules, ◌≡◌, ℕ, List, [], ◌∷◌, not, if◌then◌else◌}
+use Rattle.al_meaning.specs.Here as step
+use Rattle.al_meaning.specs.Calls.{joined}
+use Rattle.al_control.proofs.Takings.{goes_on}
+use Rattle.al_control.proofs.operators.join.Goals as goal
+
+pub returns-in_ok-words-in-Took : goal.returns-in_ok-words-in-Took
+returns-in_ok-words-in-Took c =
+    goes_on c.gives.result _ c.in-Took.values c.in-Took.h _ _ (c.in_ok-next.ensures.taken (λ (values : List (List ℕ)) (h : step.Here). step.gives h (joined values))) c.in-Took.is (search rules)
