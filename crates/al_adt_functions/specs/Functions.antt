@@ -1,5 +1,5 @@
 -- The functions that the types with members of a text have of their own, by typing rules 2 and 11.
-use Rattle.std.specs.Prelude.{ℕ, ◌+◌, ◌==◌, Bool, false, ◌&&◌, List, [], ◌∷◌, ◌++◌, find, fold, map, reverse, slice_get, slice_set, Option, Some, None}
+use Rattle.std.specs.Prelude.{ℕ, ◌+◌, Bool, false, List, [], ◌∷◌, ◌++◌, fold, map, reverse, slice_get, slice_set, Option, Some, None}
 use Rattle.al_tree.specs.declared.type_tree.TypeTree.{TypeTree}
 use Rattle.al_tree.specs.declared.item.Head.{Head}
 use Rattle.al_tree.specs.declared.item.Owner.{Owner}
@@ -13,25 +13,15 @@ use Rattle.al_form.specs.declared.form.Forms.{Forms}
 use Rattle.al_declare.specs.declared.function.Defined.{Defined}
 use Rattle.al_type_rules.specs.Types.{signature}
 use Rattle.al_member_names.specs.declared.function.OwnFunction.{OwnFunction}
-use Rattle.al_adt_functions.specs.Bodies.{number_of_body, same_number}
+use Rattle.al_adt_functions.specs.Bodies.{number_of_body}
 use Rattle.al_adt_functions.specs.Rules.{rule_2_body, rule_11_declared}
 use Rattle.al_adt_functions.specs.Owned.{function_faults, adts}
+use Rattle.al_adt_functions.specs.Searches.{adt_of, function_of}
+use Rattle.al_adt_functions.specs.Heads.{with_heads}
 use Rattle.al_adt_functions.specs.declared.owned.AdtFunctions.{AdtFunctions}
 use Rattle.al_adt_functions.specs.declared.owned.Adts.{Adts}
 
 -- ---- definitions
-
-abbrev pub is_adt_of : (adt : ℕ) → (instance : Option ℕ) → AdtFunctions → Bool
-is_adt_of adt instance a = a.owned.name == adt && same_number a.owned.instance instance
-
-unfoldable pub adt_of : List AdtFunctions → (adt : ℕ) → (instance : Option ℕ) → Option AdtFunctions
-adt_of list adt instance = find (is_adt_of adt instance) list
-
-abbrev pub is_named : ℕ → OwnFunction → Bool
-is_named name f = f.function.name == name
-
-unfoldable pub function_of : AdtFunctions → ℕ → Option OwnFunction
-function_of a name = find (is_named name) a.functions
 
 abbrev pub asked_declared : Environment → AdtFunctions → TypeTree → Head → List TypeFault
 asked_declared env a base h = ask 11 h.name.at (rule_11_declared a.owned.aggregate (function_of a h.name.name) (signature env a.owned.here base h.stars h.parameters))
@@ -80,11 +70,14 @@ no_functions row = []
 abbrev pub own_functions : List Aggregate → List AdtFunctions → List (List OwnFunction)
 own_functions rows list = placed (map no_functions rows) list
 
+abbrev pub faults_of : Environment → List Item → List Defined → Adts → List TypeFault
+faults_of env items defined w = with_heads env w.list (w.faults ++ faults_of_definitions env items defined w.list 0 defined) items
+
 abbrev pub judged : List Aggregate → Adts → List TypeFault → Outcome (List (List OwnFunction))
-judged rows w faults = judge (w.faults ++ faults) (own_functions rows w.list)
+judged rows w faults = judge faults (own_functions rows w.list)
 
 -- the functions of each, with the numbers of their bodies
 unfoldable pub functions : Environment → List Item → List Defined → Forms → List ℕ → Outcome (List (List OwnFunction))
 functions env items defined fs ns =
     let w = adts env items defined fs ns in
-    judged env.aggregates w (faults_of_definitions env items defined w.list 0 defined)
+    judged env.aggregates w (faults_of env items defined w)

@@ -40,6 +40,11 @@ same_parameters passed.Value aggregate named list = behind passed.Value aggregat
 abbrev pub agrees : (aggregate : ℕ) → NamedFunction → Signature → Bool
 agrees aggregate f s = same false f.signature.returns s.returns && same_parameters f.passed aggregate f.signature.parameters s.parameters
 
+-- 2. A function of an adt may be declared again, outside of it, with the same type.
+abbrev pub rule_2_again : (aggregate : ℕ) → Option OwnFunction → Signature → Bool
+rule_2_again aggregate None s = true
+rule_2_again aggregate (Some f) s = agrees aggregate f.function s
+
 -- 11. A function `A.f` that is defined is declared in A with the same types.
 abbrev pub rule_11_declared : (aggregate : ℕ) → Option OwnFunction → Signature → Bool
 rule_11_declared aggregate None s = false

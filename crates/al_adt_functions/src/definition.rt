@@ -5,9 +5,11 @@ ghost use Rattle.al_rules.specs.Outcome.{Answers};
 ghost use Rattle.al_typed.specs.Layout.{IsLaidOut};
 ghost use Rattle.al_adt_functions.specs.Functions as spec;
 
-use crate::body::{item_at, number_of_body, same_number};
+use crate::body::{item_at, number_of_body};
+use crate::heads::push_heads;
 use crate::owned::{AdtFunctions, Adts, adts_of, function_faults};
 use crate::rules::{rule_2_body, rule_11_declared};
+use crate::searches::{adt_of, function_of};
 use al_base::NoMemory;
 use al_declare::Defined;
 use al_environment::Environment;
@@ -19,24 +21,6 @@ use al_tree::{Head, Item, Owner, TypeTree};
 use al_type_rules::signature;
 use al_typed::Aggregate;
 use std::alloc::Global;
-
-/// The adt or instance with its functions.
-#[tactic(auto, unfolding(crate::specs::Functions::adt_of))]
-fn adt_of(list: &[AdtFunctions], adt: u32, instance: Option<usize>) -> Option<&AdtFunctions>
-    ensures { option_copied result ≡ spec.adt_of list.now adt instance }
-{
-    list.iter().find(|a| a.owned.name == adt && same_number(a.owned.instance, instance))
-}
-
-#[tactic(auto, unfolding(crate::specs::Functions::function_of))]
-fn function_of(a: &AdtFunctions, name: u32) -> Option<&OwnFunction>
-    ensures { option_copied result ≡ spec.function_of a.now name }
-{
-    a.functions
-        .as_slice()
-        .iter()
-        .find(|f| f.function.name == name)
-}
 
 /// Asks rule 11 of a definition of a function of that adt.
 fn ask_declared(
@@ -285,8 +269,8 @@ fn own_functions(
 /// The functions that the types with members of a text have of their own, by the numbers of these types, with the numbers of
 /// their bodies among the definitions.
 ///
-/// A fault is a definition that breaks rule 2 or 11, or a type in an adt or in the head of a function of one that breaks rule
-/// 7, 16, 18 or 20. It is found exactly where there is one.
+/// A fault is a definition that breaks rule 2 or 11, a head without a body that breaks rule 2, or a type in an adt or in the
+/// head of a function of one that breaks rule 7, 16, 18 or 20. It is found exactly where there is one.
 #[tactic(auto, unfolding(crate::specs::Functions::functions))]
 pub fn functions(
     alloc: Global,
@@ -301,6 +285,7 @@ pub fn functions(
 {
     let Adts { list, mut faults } = adts_of(alloc, env, items, defined, forms, numbers)?;
     push_definitions(alloc, env, items, defined, list.as_slice(), &mut faults)?;
+    push_heads(alloc, env, list.as_slice(), items, &mut faults)?;
     let own = own_functions(alloc, env.aggregates.as_slice(), list)?;
     judged(faults.as_slice(), own)
 }

@@ -68,6 +68,15 @@ fn agrees(aggregate: u32, f: &NamedFunction, s: &Signature) -> bool
         )
 }
 
+pub(crate) fn rule_2_again(aggregate: u32, f: Option<&OwnFunction>, s: &Signature) -> bool
+    ensures { result ≡ rule.rule_2_again aggregate (option_copied f.entry) s.now }
+{
+    match f {
+        None => true,
+        Some(own) => agrees(aggregate, &own.function, s),
+    }
+}
+
 pub(crate) fn rule_11_declared(aggregate: u32, f: Option<&OwnFunction>, s: &Signature) -> bool
     ensures { result ≡ rule.rule_11_declared aggregate (option_copied f.entry) s.now }
 {

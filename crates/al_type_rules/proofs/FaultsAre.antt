@@ -12,12 +12,16 @@ use Rattle.al_rules.specs.declared.fault.TypeFault.{TypeFault}
 use Rattle.al_environment.specs.declared.environment.Environment.{Environment}
 use Rattle.al_environment.specs.declared.environment.Here.{Here}
 use Rattle.al_type_rules.specs.declared.written.Stands.TheVariants as stands
-use Rattle.al_type_rules.specs.Written.{asked_child, faults_step, faults_in, faults_of}
+use Rattle.al_type_rules.specs.Written.{asked_child, faults_step, faults_in, faults_of, tuple_faults}
 
 -- a list with what was found in each
 flat_map-pairs : {A B C : Type 0} (f : A → B) (g : A × B → List C) (xs : List A) → flat_map g (map (λ x. (x, f x)) xs) ≡ flat_map (λ x. g (x, f x)) xs
 flat_map-pairs f g [] = refl
 flat_map-pairs f g (x ∷ xs) = ap (λ l. g (x, f x) ++ l) (flat_map-pairs f g xs)
+
+firsts : {A B : Type 0} (f : A → B) (xs : List A) → map (λ (c : A × B). c.0) (map (λ x. (x, f x)) xs) ≡ xs
+firsts f [] = refl
+firsts f (x ∷ xs) = ap (λ l. x ∷ l) (firsts f xs)
 
 module _ (env : Environment) (here : Here) where
   pub faults-Basic : (at : Place) (basic : BasicType) → faults_in env here (t.Basic at basic) ≡ []
@@ -31,12 +35,13 @@ module _ (env : Environment) (here : Here) where
       ∙ para-roll-TypeTree (List TypeFault) (faults_step env here) (TypeTree-F.Named at name xs)
       ∙ flat_map-pairs (faults_in env here) (asked_child env here stands.Argument at) xs
 
-  pub faults-Tuple : (at : Place) (xs : List TypeTree) → faults_in env here (t.Tuple at xs) ≡ flat_map (faults_of env here stands.Part at) xs
+  pub faults-Tuple : (at : Place) (xs : List TypeTree) → faults_in env here (t.Tuple at xs) ≡ flat_map (faults_of env here stands.Part at) xs ++ tuple_faults env here at xs
   unfolding faults_in
   faults-Tuple at xs =
       ap (para-TypeTree (List TypeFault) (faults_step env here)) (sym (t.rolls-Tuple at xs))
       ∙ para-roll-TypeTree (List TypeFault) (faults_step env here) (TypeTree-F.Tuple at xs)
-      ∙ flat_map-pairs (faults_in env here) (asked_child env here stands.Part at) xs
+      ∙ ap (λ fs. fs ++ tuple_faults env here at (map (λ (c : TypeTree × List TypeFault). c.0) (map (λ x. (x, faults_in env here x)) xs))) (flat_map-pairs (faults_in env here) (asked_child env here stands.Part at) xs)
+      ∙ ap (λ ts. flat_map (faults_of env here stands.Part at) xs ++ tuple_faults env here at ts) (firsts (faults_in env here) xs)
 
   pub faults-Chan : (at : Place) (x : TypeTree) (bound : Option Bound) → faults_in env here (t.Chan at x bound) ≡ faults_of env here stands.Part at x
   unfolding faults_in
@@ -50,7 +55,7 @@ module _ (env : Environment) (here : Here) where
   unfolding faults_in
   faults-Array at bound x = ap (para-TypeTree (List TypeFault) (faults_step env here)) (sym (t.rolls-Array at bound x)) ∙ para-roll-TypeTree (List TypeFault) (faults_step env here) (TypeTree-F.Array at bound x)
 
-pub ruleset faults_are = (faults-Basic, faults-Named, faults-Tuple, faults-Chan, faults-Pointer, faults-Array, append-nil)
+pub ruleset faults_are = (faults-Basic, faults-Named, faults-Tuple, faults-Chan, faults-Pointer, faults-Array, append-nil, append_assoc)
 
 -- ---- a list, from a place on
 

@@ -1,10 +1,11 @@
 -- Which types in a written type break rules 7, 16, 18 and 20. They are asked where a type stands in another, by what it is
--- there; what is written as a whole is asked by what it declares.
-use Rattle.std.specs.Prelude.{List, [], ◌++◌, Option}
+-- there; what is written as a whole is asked by what it declares, and a tuple of rule 18 in any place.
+use Rattle.std.specs.Prelude.{List, [], ◌++◌, map, Option}
 use Rattle.std.specs.List.{flat_map}
 use Rattle.al_base.specs.declared.place.Place.{Place}
 use Rattle.al_tree.specs.declared.type_tree.TypeTree.{TypeTree, para-TypeTree}
 use Rattle.al_tree.specs.declared.type_tree.TypeTree.TheOpen.{TypeTree-F}
+use Rattle.al_tree.specs.declared.type_tree.TypeTree.TheVariants as tree
 use Rattle.al_rules.specs.declared.fault.TypeFault.{TypeFault}
 use Rattle.al_rules.specs.Outcome.{ask}
 use Rattle.al_typed.specs.declared.program.Aggregate.{Aggregate}
@@ -46,10 +47,14 @@ module _ (env : Environment) (here : Here) where
   abbrev pub asked_child : Stands → Place → TypeTree × List TypeFault → List TypeFault
   asked_child s at c = c.1 ++ asked env.aggregates s at (written env here c.0)
 
+  -- rule 18 of a tuple as a whole, which may stand where only a pointer to it is declared
+  abbrev pub tuple_faults : Place → List TypeTree → List TypeFault
+  tuple_faults at parts = behind env.aggregates at (written env here (tree.Tuple at parts))
+
   abbrev pub faults_step : TypeTree-F (TypeTree × List TypeFault) → List TypeFault
   faults_step (TypeTree-F.Basic at basic) = []
   faults_step (TypeTree-F.Named at name arguments) = flat_map (asked_child stands.Argument at) arguments
-  faults_step (TypeTree-F.Tuple at parts) = flat_map (asked_child stands.Part at) parts
+  faults_step (TypeTree-F.Tuple at parts) = flat_map (asked_child stands.Part at) parts ++ tuple_faults at (map (λ (c : TypeTree × List TypeFault). c.0) parts)
   faults_step (TypeTree-F.Chan at element capacity) = asked_child stands.Part at element
   faults_step (TypeTree-F.Pointer at to) = asked_child stands.Behind at to
   faults_step (TypeTree-F.Array at bound element) = asked_child stands.Element at element

@@ -173,15 +173,19 @@ fn push_faults(
             arguments.as_slice(),
             faults,
         ),
-        TypeTree::Tuple { at, parts } => children(
-            alloc,
-            env,
-            here,
-            Stands::Part,
-            *at,
-            parts.as_slice(),
-            faults,
-        ),
+        TypeTree::Tuple { at, parts } => {
+            children(
+                alloc,
+                env,
+                here,
+                Stands::Part,
+                *at,
+                parts.as_slice(),
+                faults,
+            )?;
+            let ty = written_type(alloc, env, here, t)?;
+            ask_behind(env.aggregates.as_slice(), *at, &ty, faults)
+        }
         TypeTree::Chan { at, element, .. } => child(
             alloc,
             env,
@@ -207,7 +211,7 @@ fn push_faults(
 }
 
 /// Adds the breaks of rules 7, 16, 18 and 20 of the types that stand in a written type. What is written as a whole is asked by
-/// what it declares.
+/// what it declares, and a tuple of rule 18 in any place.
 pub fn faults_in(
     alloc: Global,
     env: &Environment,
