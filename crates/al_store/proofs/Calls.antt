@@ -6,7 +6,7 @@ use Rattle.std.proofs.lemmas.Bool.Decides.{nat_tests}
 use Rattle.al_base.specs.declared.trap.Trap.{Trap}
 use Rattle.al_base.specs.declared.trap.Trap.TheVariants.{Fault, Align, Memory, Unalloc}
 use Rattle.al_event.specs.declared.act.Block.{Block}
-use Rattle.al_event.specs.Store.{Span, Live, region_base, most_blocks, lies_in, hit, bytes_of, overwritten, with_word, store_word, zeros, with_block, with_span, alloc_block, new_place, least, begins_at, without_span, is_nil_heap, free_block}
+use Rattle.al_event.specs.Store.{Span, Live, region_base, most_blocks, lies_in, hit, bytes_of, overwritten, with_word, store_word, with_block, with_span, alloc_block, new_place, least, begins_at, without_span, is_nil_heap, free_block}
 use Rattle.al_event.proofs.Least.{least_is}
 use Rattle.al_region.specs.Region.{Area, IsSound}
 use Rattle.al_region.proofs.Gaps.{Fits, place_fits}
@@ -87,30 +87,40 @@ module _ (r : Area) (m : List ℕ) (sound : IsSound r) (held : AreHeld m r.block
   grown_reaches : at - region_base + n ≤ length grown
   grown_reaches = omega (arith, length-grown)
 
+  held_grown : AreHeld grown r.blocks
+  held_grown = held-same m grown r.blocks (omega (arith, length-grown)) held
+
+  -- where so many bytes are put into it
+  module _ (bytes : List ℕ) (size : length bytes ≡ n) where
+    abbrev put : List ℕ
+    put = overwritten grown (at - region_base) bytes
+
+    put_live : live_of put (record { at = at; size = n; kind = kind }) ≡ record { at = at; kind = kind; bytes = bytes }
+    put_live = ap (λ found. let b : Live = record { at = at; kind = kind; bytes = found } in b) (part-here grown bytes (at - region_base) n (sym size) grown_reaches)
+
+    put_others : lives_of put r.blocks ≡ lives_of m r.blocks
+    put_others =
+        lives-same grown bytes r.blocks at new_fits.begins (omega (arith, size, grown_reaches, new_fits.begins)) held_grown (rw size new_fits.clear)
+        ∙ lives-longer m _ r.blocks held
+
+    pub put_is : lives_of put (with_span (record { at = at; size = n; kind = kind }) r.blocks) ≡ with_block (record { at = at; kind = kind; bytes = bytes }) (lives_of m r.blocks)
+    put_is =
+        let e : Span = record { at = at; size = n; kind = kind } in
+        lives-with_span put r.blocks e ∙ ap₂ with_block put_live put_others
+
+    pub put_held : AreHeld put (with_span (record { at = at; size = n; kind = kind }) r.blocks)
+    put_held =
+        let long = length-overwritten grown bytes (at - region_base) (omega (arith, size, grown_reaches)) in
+        held-with_span put r.blocks (record { at = at; size = n; kind = kind }) new_fits.begins (omega (arith, long, grown_reaches, new_fits.begins)) (held-same grown put r.blocks (omega (arith, long)) held_grown)
+
   abbrev blank : List ℕ
   blank = replicate n 0
 
   zeros_size : length blank ≡ n
   zeros_size = search (rules, places)
 
-  new_live : live_of (cleared m (at - region_base) n) (record { at = at; size = n; kind = kind }) ≡ zeros at n kind
-  new_live = ap (λ bytes. let b : Live = record { at = at; kind = kind; bytes = bytes } in b) (part-here grown blank (at - region_base) n (sym zeros_size) grown_reaches)
-
-  held_grown : AreHeld grown r.blocks
-  held_grown = held-same m grown r.blocks (omega (arith, length-grown)) held
-
-  others_same : lives_of (cleared m (at - region_base) n) r.blocks ≡ lives_of m r.blocks
-  others_same =
-      lives-same grown blank r.blocks at new_fits.begins (omega (arith, zeros_size, grown_reaches, new_fits.begins)) held_grown (rw zeros_size new_fits.clear)
-      ∙ lives-longer m _ r.blocks held
-
   pub alloc_is : alloc_block r.bytes (lives_of m r.blocks) n kind ≡ Ok (at, lives_of (cleared m (at - region_base) n) (with_span (record { at = at; size = n; kind = kind }) r.blocks))
-  alloc_is =
-      let e : Span = record { at = at; size = n; kind = kind } in
-      let order = lives-with_span (cleared m (at - region_base) n) r.blocks e ∙ ap₂ with_block new_live others_same in
-      rw (spans_of-lives m r.blocks held, place, order) refl
+  alloc_is = rw (spans_of-lives m r.blocks held, place, put_is blank zeros_size) refl
 
   pub alloc_held : AreHeld (cleared m (at - region_base) n) (with_span (record { at = at; size = n; kind = kind }) r.blocks)
-  alloc_held =
-      let size = length-overwritten grown blank (at - region_base) (omega (arith, zeros_size, grown_reaches)) in
-      held-with_span (cleared m (at - region_base) n) r.blocks (record { at = at; size = n; kind = kind }) new_fits.begins (omega (arith, size, grown_reaches, new_fits.begins)) (held-same grown (cleared m (at - region_base) n) r.blocks (omega (arith, size)) held_grown)
+  alloc_held = put_held blank zeros_size

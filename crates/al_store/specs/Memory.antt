@@ -33,6 +33,10 @@ lies_at at (Some b) = Ok (at - region_base)
 abbrev pub access : List Span → ℕ → ℕ → Result ℕ Trap
 access spans at n = if at % n == 0 then lies_at at (hit spans at n) else Err Align
 
--- the memory up to an address, with n zeros from there on
+-- the memory up to an address, with these bytes from there on
+abbrev pub written : List ℕ → ℕ → List ℕ → List ℕ
+written memory from bytes = overwritten (memory ++ replicate (from + length bytes - length memory) 0) from bytes
+
+-- with n zeros from there on
 abbrev pub cleared : List ℕ → ℕ → ℕ → List ℕ
 cleared memory from n = overwritten (memory ++ replicate (from + n - length memory) 0) from (replicate n 0)

@@ -1,6 +1,6 @@
-ghost use Rattle.std.specs.Prelude.{◌≡◌, ◌+◌, ◌-◌, ◌≤◌, ◌<◌, length, take, drop, vec_capacity};
+ghost use Rattle.std.specs.Prelude.{◌≡◌, ◌+◌, ◌-◌, ◌≤◌, ◌<◌, ◌^◌, length, take, drop, vec_capacity};
 ghost use Rattle.al_event.specs.Store.{number_of, bytes_of, overwritten};
-ghost use Rattle.al_store.specs.Memory.{IsWidth, cleared};
+ghost use Rattle.al_store.specs.Memory.{IsWidth, cleared, written};
 
 // The word that these bytes spell, the lowest first.
 fn word_of(bytes: &[u8]) -> u32
@@ -40,6 +40,21 @@ pub fn clear(memory: &mut Vec<u8>, from: usize, to: usize)
     let len = memory.len().max(to);
     match memory.resize(len, 0) {
         Ok(()) => memory[from..to].fill(0),
+        Err(_) => unreachable!(),
+    }
+}
+
+// Puts these bytes from an index on, and has the memory reach so far.
+pub fn write(memory: &mut Vec<u8>, from: usize, bytes: &[u8])
+    requires room { from + length bytes.now ≤ vec_capacity memory.old }
+    requires few { from + length bytes.now < 2 ^ 64 }
+    ensures written { memory.new.items ≡ written memory.old.items from bytes.now }
+    ensures capacity { vec_capacity memory.old ≤ vec_capacity memory.new }
+{
+    let to = from + bytes.len();
+    let len = memory.len().max(to);
+    match memory.resize(len, 0) {
+        Ok(()) => memory[from..to].copy_from_slice(bytes),
         Err(_) => unreachable!(),
     }
 }

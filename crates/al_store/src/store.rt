@@ -1,9 +1,9 @@
-ghost use Rattle.std.specs.Prelude.{◌≡◌, ◌<◌, [], IfOk, IfErr, OnOk, OnErr, Ok, Err, option_map};
+ghost use Rattle.std.specs.Prelude.{◌≡◌, ◌+◌, ◌<◌, ◌^◌, [], Some, None, length, IfOk, IfErr, OnOk, OnErr, Ok, Err, option_map};
 ghost use Rattle.al_event.specs.Store.{is_nil_heap};
 ghost use Rattle.al_region.specs.Region.{IsSound};
 ghost use Rattle.al_store.specs.Memory.{IsWidth, access};
 
-use crate::memory::{clear, get_word, put_word};
+use crate::memory::{clear, get_word, put_word, write};
 use al_base::{NoMemory, Trap};
 use al_event::Block;
 use al_region::{BASE, NotThere, Region};
@@ -37,8 +37,8 @@ impl Model for Store {
 }
 
 impl Store {
-    ghost use Rattle.al_event.specs.Store.{load, store_word, alloc_block, free_block, next_span, spans_of};
-    ghost use Rattle.al_region.specs.Region.{IsRegionSize};
+    ghost use Rattle.al_event.specs.Store.{load, store_word, alloc_block, free_block, new_place, next_span, region_base, spans_of, with_block};
+    ghost use Rattle.al_region.specs.Region.{IsLaid, IsRegionSize};
     ghost use Rattle.al_store.specs.Memory.{IsWidth};
 
     /// A store over a region of so many bytes, a whole number of MiB from 1 to 256, with no block.
@@ -91,6 +91,25 @@ impl Store {
         Ok(at)
     }
 
+    /// Places a block of these bytes, at least 1 of them, and gives its place.
+    pub fn alloc_filled(&mut self, bytes: &[u8], kind: Block) -> Result<u32, Trap>
+        requires some { 0 < length bytes.now }
+        requires few { length bytes.now < 2 ^ 32 }
+        ensures place { IfOk result (λ at. new_place self.old.region (spans_of self.old.blocks) (length bytes.now) ≡ Some at) }
+        ensures filled { IfOk result (λ at. self.new.blocks ≡ with_block (record { at = at; kind = kind; bytes = bytes.now }) self.old.blocks) }
+        ensures none { OnErr result (new_place self.old.region (spans_of self.old.blocks) (length bytes.now) ≡ None) }
+        ensures trap { IfErr result (λ trap. trap ≡ Trap.Memory) }
+        ensures kept { OnErr result (self.new ≡ self.old) }
+        ensures region { self.new.region ≡ self.old.region }
+    {
+        let Some(at) = self.region.take(bytes.len() as u32, kind) else {
+            return Err(Trap::Memory);
+        };
+        let from = (at - BASE) as usize;
+        write(&mut self.memory, from, bytes);
+        Ok(at)
+    }
+
     /// Removes the block of this kind that begins at `at`; as a heap block, nil may be given back and leaves all as it is.
     pub fn free_block(&mut self, at: u32, kind: Block) -> Result<(), Trap>
         ensures ok { OnOk result (free_block self.old.blocks at kind ≡ Ok self.new.blocks) }
@@ -107,9 +126,10 @@ impl Store {
         Ok(())
     }
 
-    /// Place, size in bytes and kind of the live block with the least place not below `from`.
+    /// Place, size in bytes and kind of the live block with the least place not below `from`. The blocks lie one after another.
     pub fn next_block(&self, from: u32) -> Option<(u32, u32, Block)>
-        ensures { result ≡ option_map (λ b. (b.at, b.size, b.kind)) (next_span (spans_of self.now.blocks) from) }
+        ensures laid { IsLaid region_base (spans_of self.now.blocks) (region_base + self.now.region) }
+        ensures next { result ≡ option_map (λ b. (b.at, b.size, b.kind)) (next_span (spans_of self.now.blocks) from) }
     {
         self.region.next_block(from)
     }
