@@ -1,9 +1,11 @@
-//! Tests of al_scope, al_flow and al_declare, apart from these so that each is proved once.
+//! Tests of al_scope, al_flow, al_declare and al_poly on whole texts, apart from these so that each is proved once.
 #![tactic(auto)]
 
 #[cfg(test)]
-mod declarations;
+mod instances;
 #[cfg(test)]
-mod scopes;
+mod names;
 #[cfg(test)]
 mod targets;
+#[cfg(test)]
+mod text;

@@ -6,6 +6,4 @@ mod conversions;
 #[cfg(test)]
 mod forms;
 #[cfg(test)]
-mod instances;
-#[cfg(test)]
 mod written_types;
