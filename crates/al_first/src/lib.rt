@@ -20,8 +20,6 @@ mod lexer;
 mod read;
 mod reader;
 mod stop;
-#[cfg(test)]
-mod tests;
 mod token;
 
 pub use read::read_form;

@@ -11,6 +11,3 @@ mod writing;
 pub use reading::read;
 pub use stop::TraceStop;
 pub use writing::write;
-
-#[cfg(test)]
-mod tests;

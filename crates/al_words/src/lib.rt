@@ -13,6 +13,3 @@ mod stop;
 pub use job::{Job, Mode, Name};
 pub use read::read_job;
 pub use stop::{WordsFault, WordsStop};
-
-#[cfg(test)]
-mod tests;

@@ -11,6 +11,3 @@ mod queues;
 pub use book::{Book, Shape, Waiter};
 pub use chan::Chan;
 pub use fault::ChanFault;
-
-#[cfg(test)]
-mod tests;

@@ -13,6 +13,3 @@ pub use front::{enough, fronts_suffice};
 pub use migrating::migrate;
 pub use reading::read;
 pub use writing::write;
-
-#[cfg(test)]
-mod tests;

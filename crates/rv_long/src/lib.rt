@@ -11,8 +11,6 @@ mod blocks;
 mod op;
 mod routines;
 mod step;
-#[cfg(test)]
-mod tests;
 
 pub use op::LongOp;
 pub use routines::routine;

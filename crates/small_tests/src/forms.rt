@@ -1,5 +1,5 @@
-use crate::form::{Piece, Statement};
-use crate::{FormStop, read_form};
+use al_first::form::{Piece, Statement};
+use al_first::{FormStop, read_form};
 use std::alloc::{AllocError, Global};
 use std::test::Fail;
 

@@ -1,5 +1,5 @@
-use super::*;
 use al_items::Items;
+use rv_image::{ImageFault, ImageStop, migrate, read, write};
 use rv_isa::image::{Contents, Image, Row};
 use std::alloc::Global;
 use std::test::Fail;

@@ -1,4 +1,4 @@
-use crate::{Book, ChanFault, Shape};
+use chan_book::{Book, ChanFault, Shape};
 use std::test::Fail;
 
 fn crosses_threads<T: Send + Drop>(_value: T) {}

@@ -1,6 +1,6 @@
-use super::*;
 use al_event::Entry;
 use al_host::{Host, MemHost, MemSink};
+use al_trace::{TraceStop, read, write};
 use std::alloc::Global;
 use std::test::Fail;
 

@@ -2,13 +2,13 @@
 
 ghost use Rattle.std.specs.Prelude.{◌≡◌, ◌<◌, ◌≤◌, ◌^◌, vec_len};
 
-use crate::{LongOp, routine};
 use al_base::NoMemory;
 use al_event::Act;
 use al_items::Items;
 use rv_asm::assemble;
 use rv_exec::{Hart, Held, Privates, stretch};
 use rv_isa::image::{Contents, Image, Row};
+use rv_long::{LongOp, routine};
 use std::alloc::Global;
 use std::process::Abort;
 

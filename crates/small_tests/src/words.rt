@@ -1,4 +1,4 @@
-use crate::{Job, Mode, WordsStop, read_job};
+use al_words::{Job, Mode, WordsStop, read_job};
 use std::test::Fail;
 
 /// What a line names: mode, file, schedule, workers, entries, region and number.
