@@ -1,12 +1,12 @@
 -- The world that a program's lists stand for.
-use Rattle.std.specs.Prelude.{ℕ, ◌+◌, ◌<◌, ◌^◌, if◌then◌else◌, List, [], ◌∷◌, length, map}
+use Rattle.std.specs.Prelude.{ℕ, ◌+◌, ◌<◌, ◌^◌, if◌then◌else◌, List, [], ◌∷◌, length, map, slice_index}
 use Rattle.al_event.specs.declared.act.Act.{Act}
 use Rattle.al_event.specs.declared.act.Act.TheVariants.{Talk}
+use Rattle.al_world.specs.Channels.{Book, has_bad, ready, is_some_ready}
 use Rattle.al_world.specs.World as world
-use Rattle.al_world.specs.World.{TaskName, same_task, at_proc, at_task}
+use Rattle.al_world.specs.World.{TaskName, TalkName, same_task, at_task}
 use Rattle.al_script.specs.declared.script.Instruction.{Instruction}
 use Rattle.al_script.specs.declared.script.Control.{Control}
-use Rattle.al_script.specs.declared.world.Count.{Count}
 use Rattle.al_script.specs.declared.world.State.{State}
 use Rattle.al_script.specs.declared.world.Made.{Made}
 use Rattle.al_script.specs.declared.world.Held.{Held}
@@ -19,10 +19,9 @@ use Rattle.al_script.specs.declared.tells.Message.{Message}
 use Rattle.al_script.specs.declared.tells.Effect.{Effect}
 use Rattle.al_script.specs.Scripts.{scripts, act_of}
 
--- counts of procs, the latest first; 0 where there is none
-abbrev pub counts_of : List Count → ℕ → ℕ
-counts_of [] = λ _. 0
-counts_of (c ∷ cs) = at_proc c.proc c.count (counts_of cs)
+-- counts of procs by their numbers; 0 where there is none
+unfoldable pub counts_of : List ℕ → ℕ → ℕ
+counts_of counts = λ proc. slice_index counts proc
 
 abbrev pub shared_of : Made → State → world.Shared
 shared_of m s = record {
@@ -91,3 +90,10 @@ pub record Fits (s : world.Shared) (t : TaskName) (act : Act) : Type 0 where
   pub procs : length s.procs + 1024 < 2 ^ 32
   pub channels : length s.book.channels + 1 < 2 ^ 32
   pub branches : branches_in act < 2 ^ 32
+
+-- ---- picks
+
+-- how many picks an action has where these are the channels
+abbrev pub picks_with : Book TalkName → Act → ℕ
+picks_with book (Talk branches) = if has_bad book branches then 1 else (if is_some_ready (ready book branches) then length (ready book branches) else 1)
+picks_with book _ = 1

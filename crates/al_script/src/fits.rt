@@ -1,9 +1,7 @@
 // Answers, cut to the size that their action has.
 
-ghost use Rattle.std.specs.Prelude.{◌≡◌, ◌++◌, ◌<◌, ◌^◌, drop, slice_get, slice_index, IfOk, OnOk};
+ghost use Rattle.std.specs.Prelude.{◌≡◌, ℕ, ◌++◌, ◌<◌, ◌%◌, ◌^◌, drop, slice_get, slice_index, IfOk, OnOk};
 ghost use Rattle.al_world.specs.Control.{cut, received_by, talk_answer, branch_in, fitted};
-ghost use Rattle.al_store.specs.Memory.{IsWidth};
-ghost use Rattle.al_script.specs.Scripts.{IsSized};
 
 use crate::lists::word_in;
 use al_base::NoMemory;
@@ -85,26 +83,39 @@ fn talk_answer(alloc: Global, branches: &[Branch], given: &[u32]) -> Result<Word
     Ok(words)
 }
 
-/// The number of values that so many bytes have.
+/// A number by which words leave the same remainders as by the number of values that so many bytes have.
+#[tactic(auto, using(crate::proofs::Bounds::bounds_are))]
 fn bound_of(size: u8) -> u64
-    requires { IsWidth size }
-    ensures value { result ≡ 256 ^ size }
+    ensures same { (word : ℕ) → word < 2 ^ 32 → word % result ≡ word % 256 ^ size }
     ensures some { 0 < result }
 {
     match size {
+        0 => 1,
         1 => 0x100,
         2 => 0x1_0000,
+        3 => 0x100_0000,
         _ => 0x1_0000_0000,
     }
 }
 
+/// The word that a load of so many bytes answers.
+#[tactic(auto, using(crate::proofs::Bounds::first_is_cut))]
+fn loaded(alloc: Global, size: u8, given: &[u32]) -> Result<Words, NoMemory>
+    ensures { IfOk result (λ words. words ≡ cut 1 (256 ^ size) given.now) }
+{
+    let word = word_in(given, 0);
+    let cut = u64::from(word) % bound_of(size);
+    let mut words = Items::new(alloc);
+    words.push(cut as u32)?;
+    Ok(words)
+}
+
 /// The words that an answer to an action has.
 pub fn fitted(alloc: Global, act: &Act, given: &[u32]) -> Result<Words, NoMemory>
-    requires { IsSized act.now }
     ensures { IfOk result (λ words. words ≡ fitted act.now given.now) }
 {
     match act {
-        Act::Load { size, .. } => cut(alloc, 1, bound_of(*size), given),
+        Act::Load { size, .. } => loaded(alloc, *size, given),
         Act::Alloc { .. } | Act::NewChan { .. } => cut(alloc, 1, 0x1_0000_0000, given),
         Act::CanRecv { .. } | Act::CanSend { .. } => cut(alloc, 1, 2, given),
         Act::Talk { branches } => talk_answer(alloc, branches.as_slice(), given),

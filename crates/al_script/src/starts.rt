@@ -9,7 +9,7 @@ ghost use Rattle.al_script.specs.Worlds.{shared_of, effect_of, message_of, count
 use crate::counts::{count_in, with_count};
 use crate::effects::trapped;
 use crate::tells::{Effect, Message, Told};
-use crate::world::{Count, Made, State};
+use crate::world::{Made, State};
 use al_base::{NoMemory, Trap};
 use al_event::{Start, Starts};
 use al_items::Items;
@@ -70,20 +70,15 @@ fn add_procs(
 }
 
 /// One task was started in each of these procs.
-fn counts_from(
-    alloc: Global,
-    proc: u32,
-    starts: &[Start],
-    started: Items<Count>,
-) -> Result<Items<Count>, NoMemory>
+fn counts_from(proc: u32, starts: &[Start], started: Items<u32>) -> Result<Items<u32>, NoMemory>
     requires { proc + length starts.now < 2 ^ 32 }
     ensures { IfOk result (λ after. counts_of after ≡ counts_from proc starts.now (counts_of started)) }
 {
     match starts {
         [] => Ok(started),
         [_, rest @ ..] => {
-            let started = with_count(alloc, started, proc, 1)?;
-            counts_from(alloc, proc + 1, rest, started)
+            let started = with_count(started, proc, 1)?;
+            counts_from(proc + 1, rest, started)
         }
     }
 }
@@ -109,7 +104,7 @@ fn starts_procs(
         over,
     } = state;
     let first = procs.len() as u32;
-    let started = counts_from(alloc, first, starts, started)?;
+    let started = counts_from(first, starts, started)?;
     let mut procs = procs;
     add_procs(alloc, &mut procs, parent, first, starts)?;
     Ok(State {
@@ -172,7 +167,7 @@ fn starts_task(alloc: Global, made: &Made, next: TaskName, state: State) -> Resu
         store,
         book,
         procs: starts_in_proc(alloc, next.proc as usize, next, procs)?,
-        started: with_count(alloc, started, next.proc, next.number + 1)?,
+        started: with_count(started, next.proc, next.number + 1)?,
         output,
         went,
         over,

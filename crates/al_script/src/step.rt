@@ -5,7 +5,7 @@ ghost use Rattle.al_script.specs.declared.script.Instruction.{Instruction};
 ghost use Rattle.std.specs.List.{list_any};
 ghost use Rattle.al_world.specs.Procs.{has_ready, live_tasks};
 ghost use Rattle.al_world.specs.World.{at_proc, at_task, told, Waits as Waiting, Goes as Going};
-ghost use Rattle.al_world.specs.Step.{end_by_lists, over_or, line_of, counted, opening, task_of, step_held};
+ghost use Rattle.al_world.specs.Step.{end_by_lists, over_or, line_of, counted, opening, opening_shared, task_of, step_held};
 ghost use Rattle.al_region.specs.Region.{IsRegionSize};
 ghost use Rattle.al_script.specs.Scripts.{scripts, act_of, line_in, IsSized};
 ghost use Rattle.al_script.specs.Worlds.{counts_of, shared_of, tasks_of, effect_of, world_of, branches_in, Fits};
@@ -17,7 +17,7 @@ use crate::counts::{count_in, with_count};
 use crate::lists::before;
 use crate::script::{Control, Function};
 use crate::tells::{Effect, begun, held_in, tells};
-use crate::world::{Change, Count, Held, Made, State, World};
+use crate::world::{Change, Held, Made, State, World};
 use al_base::{NoMemory, Over};
 use al_event::{Act, Entry, Start};
 use al_items::Items;
@@ -53,7 +53,7 @@ fn end_by_lists(procs: &[ProcState]) -> Option<Over>
 }
 
 /// The state after an entry: it may be over now.
-fn ended(state: State) -> State
+pub fn ended(state: State) -> State
     ensures { result ≡ record state { over = over_or state.over (end_by_lists state.procs) } }
 {
     let mut state = state;
@@ -73,8 +73,8 @@ fn line_of(over: Option<Over>, line: u64) -> u64
     }
 }
 
-/// The entries with one more.
-fn made_after(
+/// The entries with one more, of a proc, and the line of the action where it trapped.
+pub fn made_after(
     alloc: Global,
     made: Made,
     proc: u32,
@@ -95,7 +95,7 @@ fn made_after(
     let own = count_in(of_procs.as_slice(), proc);
     Ok(Made {
         entries: entries + 1,
-        of_procs: with_count(alloc, of_procs, proc, own + 1)?,
+        of_procs: with_count(of_procs, proc, own + 1)?,
         line: line_of(over, line),
     })
 }
@@ -142,7 +142,7 @@ fn branches_in(act: &Act) -> usize
 }
 
 /// Whether an entry brings no number past 32 bits.
-fn fits(made: &Made, state: &State, task: TaskName, act: &Act) -> bool
+pub fn has_room(made: &Made, state: &State, task: TaskName, act: &Act) -> bool
     ensures { IsTrue result ↔ Fits (shared_of made.now state.now) task act.now }
 {
     let most = u32::MAX;
@@ -198,7 +198,7 @@ fn step_goes(
     ensures { IfOk result (λ next. IsNextOf script.now (world_of script.now world) task pick next) }
 {
     let act = act_of(alloc, script, &control)?;
-    if !fits(&world.made, &world.state, task, &act) {
+    if !has_room(&world.made, &world.state, task, &act) {
         return Ok(Next::TooLarge);
     }
     match step_asked(alloc, script, world, task, pick, control, act)? {
@@ -225,7 +225,7 @@ fn step_task(
 }
 
 /// The task whose turn it is by an entry of a proc: the first of its ready list, unless the world is over.
-fn task_of(state: &State, proc: u32) -> Option<TaskName>
+pub fn task_of(state: &State, proc: u32) -> Option<TaskName>
     ensures { (made : Made) → result ≡ task_of (shared_of made state.now) state.now.over proc }
 {
     if state.over.is_some() {
@@ -249,29 +249,39 @@ pub fn step(
     }
 }
 
-/// The first world, over an empty store: proc 0 with one task.
-pub fn opening(alloc: Global, region: u32, start: &Start) -> Result<World, NoMemory>
-    requires { IsRegionSize region }
-    ensures { IfOk result (λ w. (functions : List (List Instruction)) → world_of functions w ≡ opening (scripts functions) region [] start.now) }
+/// What all can see before the first entry, over a store or as it is over: proc 0 with one task.
+#[tactic(auto, using(crate::proofs::CountsOf::counts_open))]
+pub fn opened(alloc: Global, store: Store, over: Option<Over>) -> Result<(State, Made), NoMemory>
+    ensures { IfOk result (λ o. shared_of o.1 o.0 ≡ opening_shared store.region store.blocks over) }
 {
     let task = TaskName { proc: 0, number: 0 };
     let state = State {
-        store: Store::new(alloc, region)?,
+        store,
         book: Book {
             channels: Items::new(alloc),
             waiting: Items::new(alloc),
         },
         procs: list_of_one(alloc, new_proc(alloc, None, task)?)?,
-        started: list_of_one(alloc, Count { proc: 0, count: 1 })?,
+        started: with_count(Items::new(alloc), 0, 1)?,
         output: Items::new(alloc),
         went: Items::new(alloc),
-        over: None,
+        over,
     };
     let made = Made {
         entries: 0,
         of_procs: Items::new(alloc),
         line: 0,
     };
+    Ok((state, made))
+}
+
+/// The first world, over an empty store.
+pub fn opening(alloc: Global, region: u32, start: &Start) -> Result<World, NoMemory>
+    requires { IsRegionSize region }
+    ensures { IfOk result (λ w. (functions : List (List Instruction)) → world_of functions w ≡ opening (scripts functions) region [] start.now) }
+{
+    let (state, made) = opened(alloc, Store::new(alloc, region)?, None)?;
+    let task = TaskName { proc: 0, number: 0 };
     let held = Held::Goes(begun(alloc, start)?);
     let tasks = list_of_one(alloc, Change { task, held })?;
     Ok(World { state, made, tasks })

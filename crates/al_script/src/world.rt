@@ -7,31 +7,25 @@ use al_items::Items;
 use al_script_book::{Book, ProcState, TaskName, Went};
 use al_store::Store;
 
-/// What a count of a proc became.
-#[derive(Debug, Clone, Copy, PartialEq, Eq)]
-pub struct Count {
-    pub proc: u32,
-    pub count: u32,
-}
-
-/// What actions see and change. `started` has how many tasks were started in each proc, the latest first.
+/// What actions see and change. `started` has how many tasks were started in each proc, by the procs'
+/// numbers.
 #[derive(Drop)]
 pub struct State {
     pub store: Store,
     pub book: Book,
     pub procs: Items<ProcState>,
-    pub started: Items<Count>,
+    pub started: Items<u32>,
     pub output: Bytes,
     pub went: Items<Went>,
     pub over: Option<Over>,
 }
 
-/// The entries that were made: how many, how many of each proc, the latest first, and the line of the action that
-/// trapped, else 0.
+/// The entries that were made: how many, how many of each proc by the procs' numbers, and the line of the action that trapped,
+/// else 0.
 #[derive(Debug, Drop)]
 pub struct Made {
     pub entries: u32,
-    pub of_procs: Items<Count>,
+    pub of_procs: Items<u32>,
     pub line: u64,
 }
 

@@ -2,9 +2,9 @@ use Rattle.std.proofs.Common.{Some, None}
 use Rattle.al_script.proofs.Steps.{steps_to, no_room}
 use Rattle.al_script.proofs.step.step_goes.Goals as goal
 
-pub returns-then-not-fits : goal.returns-then-not-fits
-returns-then-not-fits c =
-    record { control = c.args.control; goes = c.requires; room = no_room c.args.script.now _ _ _ _ c.in_ok-act.ensures.value c.if-not-fits.ensures }
+pub returns-then-not-has_room : goal.returns-then-not-has_room
+returns-then-not-has_room c =
+    record { control = c.args.control; goes = c.requires; room = no_room c.args.script.now _ _ _ _ c.in_ok-act.ensures.value c.if-not-has_room.ensures }
 
 pub returns-in-Some : goal.returns-in-Some
 returns-in-Some c =

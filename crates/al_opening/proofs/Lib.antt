@@ -1,0 +1,3 @@
+pub mod LowBytes
+pub mod Explained
+pub mod Placed
