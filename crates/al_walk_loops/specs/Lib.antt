@@ -1,2 +1,0 @@
-pub mod BodyParts
-pub mod Rounds
