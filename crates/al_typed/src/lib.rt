@@ -24,7 +24,7 @@ pub use expression::{
 };
 pub use layout::{Room, Unit, in_order, room_of};
 pub use limit::Limit;
-pub use measure::weigh;
+pub use measure::{function_slots, weigh};
 pub use piece::Piece;
 pub use program::{Aggregate, Function, Global, Local, Program, StartValue, StartWord};
 pub use sizes::size;

@@ -98,6 +98,17 @@ fn slots(p: &Program, f: &Function, tally: Tally) -> u64
         .saturating_add(16)
 }
 
+/// The words that a function takes on the stack of a task, at most 2^64 - 1.
+///
+/// [`weigh`] says whether they are within the limit; a program that is walked wants the numbers themselves.
+#[tactic(auto, using(crate::proofs::Sums::tally_is))]
+pub fn function_slots(p: &Program, f: &Function) -> u64
+    requires { IsLaidOut p.now.aggregates }
+    ensures { result ≡ capped (spec.function_slots p.now f.now) }
+{
+    slots(p, f, tally_of(p, f))
+}
+
 /// One function more.
 #[tactic(auto, using(crate::proofs::Sums::tally_is), unfolding(crate::specs::Measures::with_function))]
 fn with_function(p: &Program, f: &Function, totals: Totals) -> Totals
