@@ -1,0 +1,4 @@
+pub mod Onward
+pub mod Scans
+pub mod TypeForms
+pub mod Verbs

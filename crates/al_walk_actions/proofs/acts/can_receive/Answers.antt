@@ -1,0 +1,10 @@
+use Rattle.std.proofs.Common.{rules, ℕ, [], ◌∷◌}
+use Rattle.al_meaning.specs.Here as step
+use Rattle.al_event.specs.declared.act.Act.TheVariants as act
+use Rattle.al_meaning.specs.Items.{Answered}
+use Rattle.al_control.proofs.Takings.{goes_on}
+use Rattle.al_walk_actions.proofs.acts.can_receive.Goals as goal
+
+pub returns-in-Took : goal.returns-in-Took
+returns-in-Took c =
+    goes_on c.asks.result _ c.in-Took.chan c.in-Took.h _ _ (c.in_ok-next.ensures.taken (λ (n : ℕ) (h : step.Here). step.asks h (act.CanRecv n) (Answered ∷ []))) c.in-Took.is (search rules)

@@ -1,0 +1,10 @@
+pub mod Alikes
+pub mod BegunFrames
+pub mod Choices
+pub mod FunctionNames
+pub mod GivenFrames
+pub mod Onward
+pub mod RowItems
+pub mod SharedLocals
+pub mod SmallTypes
+pub mod StackRoom

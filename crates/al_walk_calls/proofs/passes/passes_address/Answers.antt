@@ -1,0 +1,8 @@
+use Rattle.std.proofs.Common.{rules, ℕ, List}
+use Rattle.al_meaning.specs.Here as step
+use Rattle.al_control.proofs.Takings.{goes_on}
+use Rattle.al_walk_calls.proofs.passes.passes_address.Goals as goal
+
+pub returns : goal.returns
+returns c =
+    goes_on c.lost.result _ _ c.in-Took.h _ _ (c.in_ok-next.ensures.taken (λ (ws : List ℕ) (h : step.Here). step.lost h)) c.in-Took.is (search rules)

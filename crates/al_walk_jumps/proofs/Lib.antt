@@ -1,0 +1,4 @@
+pub mod Labels
+pub mod Borders
+pub mod GoingOn
+pub mod JumpTargets

@@ -1,0 +1,10 @@
+use Rattle.std.proofs.Common.{◌≡◌, length, map}
+use Rattle.al_meaning.specs.Parts.{next_of_loop}
+use Rattle.al_control.specs.Models.{item_of}
+use Rattle.al_walk_jumps.proofs.leads.next_of_loop.Given as goal
+
+abbrev pub invariant-loop-left : goal.invariant-loop-left
+invariant-loop-left l = next_of_loop l.left (map item_of l.items) ≡ next_of_loop l.levels (map item_of l.fn.items)
+
+abbrev pub decreases-loop-left : goal.decreases-loop-left
+decreases-loop-left l = length l.items

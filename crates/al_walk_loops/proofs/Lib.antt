@@ -1,0 +1,6 @@
+pub mod WorkLists
+pub mod LoopRounds
+pub mod LoopSteps
+pub mod PutLists
+pub mod StatementRows
+pub mod Goings

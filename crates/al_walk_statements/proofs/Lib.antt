@@ -1,0 +1,5 @@
+pub mod Comparisons
+pub mod PutBounds
+pub mod Rests
+pub mod TakenBounds
+pub mod Turns

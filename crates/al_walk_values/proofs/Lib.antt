@@ -1,0 +1,3 @@
+pub mod Evaluations
+pub mod WorkLists
+pub mod CallWorks
