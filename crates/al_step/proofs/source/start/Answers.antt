@@ -1,0 +1,19 @@
+use Rattle.std.proofs.Common.{◌∙◌, refl, ap}
+use Rattle.al_meaning.specs.Meaning.{run}
+use Rattle.al_step.proofs.Worlds.{opens, few_procs}
+use Rattle.al_step.proofs.source.start.Goals as goal
+
+pub returns-clause-sound : goal.returns-clause-sound
+returns-clause-sound c =
+    record {
+      laid_out = c.requires.laid_out;
+      slots = c.in_ok-slots.ensures;
+      procs = few_procs c.in_ok-state.made c.in_ok-state.state _ _ _ c.in_ok-state.ensures;
+    }
+
+pub returns-clause-stands : goal.returns-clause-stands
+returns-clause-stands c =
+    record {
+      program = refl;
+      ran = ap (run c.args.p.now c.args.region) c.new.ensures ∙ opens c.args.p.now c.args.region _ _ _ _ _ _ _ _ _ _ c.in_ok-state.ensures c.in_ok-first.ensures.region c.in_ok-first.ensures.opened c.in_ok-begin.ensures.start c.in_ok-control.ensures.control c.no_tasks-tasks.ensures c.in_ok-put_task.ensures c.in_ok-words.ensures.words c.fresh_privates-privates.ensures;
+    }
