@@ -42,7 +42,8 @@ fn within(program: &Program) -> Result<(), FrontStop>
 
 /// The program of a tree, within the limits.
 pub(crate) fn program_of(alloc: Global, tree: &Tree) -> Result<Program, FrontStop>
-    ensures { AnswersTree tree.now result }
+    ensures answer { AnswersTree tree.now result }
+    ensures laid { IfOk result (λ p. IsLaidOut p.aggregates) }
 {
     let instances = concrete(alloc, tree)?;
     let program = check(alloc, tree, &instances)?;

@@ -1,6 +1,7 @@
 //! The front end.
 ghost use Rattle.std.specs.Prelude.{◌≡◌, ◌≢◌, Ok, Err, IfOk};
 ghost use Rattle.al_typed.specs.declared.program.Program.{Program as SpecProgram};
+ghost use Rattle.al_typed.specs.Layout.{IsLaidOut};
 ghost use Rattle.al_typed.specs.Measures.{IsWithin};
 ghost use Rattle.al_front.specs.declared.refused.Refused.{Refused as Reason};
 ghost use Rattle.al_front.specs.Accepted.{IsAccepted, IsRefused};
@@ -18,6 +19,7 @@ const MOST_BYTES: usize = 1 << 20;
 /// value too wide, a program or a function too heavy, a function with too many slots.
 pub fn front(alloc: Global, text: &[u8]) -> Result<Program, FrontStop>
     ensures program { IfOk result (λ p. IsAccepted text.now p × IsWithin p) }
+    ensures laid { IfOk result (λ p. IsLaidOut p.aggregates) }
     ensures refused { (r : Reason) → result ≡ Err (FrontStop.Refused r) → IsRefused text.now r }
     ensures made { (p : SpecProgram) → IsAccepted text.now p → IsWithin p → result ≢ Err FrontStop.NoMemory → result ≡ Ok p }
 {

@@ -1,9 +1,9 @@
 -- From why a call ends as it does to which end each cause has.
-use Rattle.std.proofs.Common.{◌≡◌, ℕ, ◌<◌, List, Bool, true, false, cond, Option, Some, None, Err, Ok, refl, sym, ap, ◌∙◌, subst, arith, inl, inr}
-use Rattle.std.specs.Prelude.{◌⊎◌}
+use Rattle.std.proofs.Common.{◌≡◌, ℕ, ◌<◌, ◌≤◌, List, length, Bool, true, false, cond, Option, Some, None, Err, refl, sym, ap, ◌∙◌, subst, arith, inl, inr}
+use Rattle.std.specs.Prelude.{◌⊎◌, IsSome}
 use Rattle.al_base.specs.declared.over.Over.{Over}
 use Rattle.al_base.specs.declared.over.Over.TheVariants.{Done}
-use Rattle.al_host.specs.Outside.{Content, Faulted}
+use Rattle.al_host.specs.Outside.{Faulted}
 use Rattle.al_first.specs.declared.form.Form.{Form}
 use Rattle.al_first.specs.Form.{IsForm}
 use Rattle.al_words.specs.declared.job.Mode.{Mode}
@@ -14,17 +14,27 @@ use Rattle.rv_image.specs.declared.fault.ImageFault.{ImageFault}
 use Rattle.rv_image.specs.Spelling.{IsImage}
 use Rattle.rv_image.specs.Reading.{reading}
 use Rattle.rv_image.proofs.Again.{image_again}
-use Rattle.al_front.specs.Accepted.{IsRefused}
+use Rattle.al_event.specs.declared.entry.Entry.{Entry}
+use Rattle.al_trace.specs.Schedule.{IsSchedule}
+use Rattle.al_typed.specs.declared.program.Program.{Program}
+use Rattle.al_typed.specs.Measures.{IsWithin}
+use Rattle.al_meaning.specs.Meaning.{run}
+use Rattle.al_show.specs.Walks.{IsRefused as IsEntryRefused}
+use Rattle.al_front.specs.Accepted.{IsAccepted, IsRefused}
 use Rattle.al_front.specs.declared.refused.Refused.{Refused as Reason}
 use Rattle.alef_run.specs.Call.{Call, LacksText, text_in}
 use Rattle.alef_run.specs.RunMode.{EndsRun, HasNoForm}
 use Rattle.alef_run.specs.ExecMode.{EndsExec, RanImage}
 use Rattle.alef_run.specs.CheckMode.{HasProgram, EndsCheck}
+use Rattle.alef_run.specs.Load.{IsBadSchedule}
+use Rattle.alef_run.specs.StepMode.{EndsStep, bytes_of_region, first_of}
+use Rattle.alef_run.specs.declared.report.ScheduleFault.{ScheduleFault}
 use Rattle.alef_run.specs.Modes.{EndsIdle, EndsIn, EndsBy, is_built, built}
 use Rattle.alef_run.specs.declared.report.End.{End}
-use Rattle.alef_run.specs.declared.report.End.TheVariants.{Ran, Made, Words, ReadFault, Refused, BadImage, WriteFault, NoMemory}
+use Rattle.alef_run.specs.declared.report.End.TheVariants.{Ran, Made, Words, ReadFault, Refused, BadImage, BadSchedule, BadEntry, BadNumber, WriteFault, NoMemory, TooLarge}
 use Rattle.alef_run.specs.declared.report.Refused.TheVariants.{Form as Other, Text}
 use Rattle.alef_run.proofs.Checks.{missing_check, host_check, out_check, complete_check, refused_check}
+use Rattle.alef_run.proofs.Steps.{missing_step, host_step, out_step, refused_step, missing_schedule_step, bad_schedule_step, bad_number_step, bad_entry_step, complete_step}
 use Rattle.alef_run.proofs.Told.{neither, not_missing}
 
 -- ---- the job of the words
@@ -48,21 +58,21 @@ job_built (Some j) job e = on (is_built j.mode) refl e
 
 module _ (call : Call) where
   -- what follows from each way to end follows from the end
-  by_mode : (A : Type 0) (end : End) (mode : Mode) (job : Job) → (EndsIdle call end → A) → (EndsRun job.file call end → A) → (EndsExec job call end → A) → (EndsCheck job.file call end → A) → EndsIn mode job call end → A
-  by_mode A end Run job idle run exec check e = run e
-  by_mode A end Exec job idle run exec check e = exec e
-  by_mode A end Check job idle run exec check e = check e
-  by_mode A end Replay job idle run exec check e = idle e
-  by_mode A end Recorded job idle run exec check e = idle e
-  by_mode A end Build job idle run exec check e = idle e
-  by_mode A end Sample job idle run exec check e = idle e
-  by_mode A end Race job idle run exec check e = idle e
-  by_mode A end Step job idle run exec check e = idle e
-  by_mode A end Link job idle run exec check e = idle e
+  by_mode : (A : Type 0) (end : End) (mode : Mode) (job : Job) → (EndsIdle call end → A) → (EndsRun job.file call end → A) → (EndsExec job call end → A) → (EndsCheck job.file call end → A) → (EndsStep job call end → A) → EndsIn mode job call end → A
+  by_mode A end Run job idle run exec check step e = run e
+  by_mode A end Exec job idle run exec check step e = exec e
+  by_mode A end Check job idle run exec check step e = check e
+  by_mode A end Replay job idle run exec check step e = idle e
+  by_mode A end Recorded job idle run exec check step e = idle e
+  by_mode A end Build job idle run exec check step e = idle e
+  by_mode A end Sample job idle run exec check step e = idle e
+  by_mode A end Race job idle run exec check step e = idle e
+  by_mode A end Step job idle run exec check step e = step e
+  by_mode A end Link job idle run exec check step e = idle e
 
-  by_job : (A : Type 0) (end : End) (o : Option Job) → (EndsIdle call end → A) → ((job : Job) → EndsRun job.file call end → A) → ((job : Job) → EndsExec job call end → A) → ((job : Job) → EndsCheck job.file call end → A) → EndsBy o call end → A
-  by_job A end None idle run exec check e = idle e
-  by_job A end (Some job) idle run exec check e = by_mode A end job.mode job idle (run job) (exec job) (check job) e
+  by_job : (A : Type 0) (end : End) (o : Option Job) → (EndsIdle call end → A) → ((job : Job) → EndsRun job.file call end → A) → ((job : Job) → EndsExec job call end → A) → ((job : Job) → EndsCheck job.file call end → A) → ((job : Job) → EndsStep job call end → A) → EndsBy o call end → A
+  by_job A end None idle run exec check step e = idle e
+  by_job A end (Some job) idle run exec check step e = by_mode A end job.mode job idle (run job) (exec job) (check job) (step job) e
 
   ends_in : (end : End) (o : Option Job) (job : Job) → EndsBy o call end → built o ≡ Some job → EndsIn job.mode job call end
   ends_in end o job e is = let P : Option Job → Type 0 = λ o. EndsBy o call end in subst P (job_was o job is) e
@@ -76,6 +86,9 @@ module _ (call : Call) where
   pub ends_check : (end : End) (o : Option Job) (job : Job) → EndsBy o call end → built o ≡ Some job → job.mode ≡ Check → EndsCheck job.file call end
   ends_check end o job e is mode = let P : Mode → Type 0 = λ mode. EndsIn mode job call end in subst P mode (ends_in end o job e is)
 
+  pub ends_step : (end : End) (o : Option Job) (job : Job) → EndsBy o call end → built o ≡ Some job → job.mode ≡ Step → EndsStep job call end
+  ends_step end o job e is mode = let P : Mode → Type 0 = λ mode. EndsIn mode job call end in subst P mode (ends_in end o job e is)
+
   -- ---- words
 
   words_in : (end : End) (mode : Mode) (job : Job) → EndsIn mode job call end → end ≡ Words → is_built mode ≡ false
@@ -87,7 +100,7 @@ module _ (call : Call) where
   words_in end Build job e is = refl
   words_in end Sample job e is = refl
   words_in end Race job e is = refl
-  words_in end Step job e is = refl
+  words_in end Step job e is = absurd (let P : End → Type 0 = EndsStep job call in subst P is e)
   words_in end Link job e is = refl
 
   pub words_cause : (end : End) (o : Option Job) → EndsBy o call end → end ≡ Words → built o ≡ None
@@ -103,7 +116,7 @@ module _ (call : Call) where
   idle_in end Build job e is = e.0
   idle_in end Sample job e is = e.0
   idle_in end Race job e is = e.0
-  idle_in end Step job e is = e.0
+  idle_in end Step job e is = absurd (cc)
   idle_in end Link job e is = e.0
 
   pub words_end : (end : End) (o : Option Job) → EndsBy o call end → built o ≡ None → (end ≡ Words) ⊎ (end ≡ NoMemory)
@@ -121,6 +134,10 @@ module _ (call : Call) where
   missing_run file NoMemory e m = inr refl
   missing_run file Made e m = absurd e
   missing_run file Words e m = absurd e
+  missing_run file (BadSchedule bad) e m = absurd e
+  missing_run file (BadEntry number) e m = absurd e
+  missing_run file (BadNumber count) e m = absurd e
+  missing_run file TooLarge e m = absurd e
   missing_run file (BadImage fault) e m = absurd e
 
   missing_exec : (job : Job) (end : End) → EndsExec job call end → LacksText call.told job.file → (end ≡ ReadFault) ⊎ (end ≡ NoMemory)
@@ -131,6 +148,10 @@ module _ (call : Call) where
   missing_exec job NoMemory e m = inr refl
   missing_exec job Made e m = absurd e
   missing_exec job Words e m = absurd e
+  missing_exec job (BadSchedule bad) e m = absurd e
+  missing_exec job (BadEntry number) e m = absurd e
+  missing_exec job (BadNumber count) e m = absurd e
+  missing_exec job TooLarge e m = absurd e
   missing_exec job (Refused reason) e m = absurd e
 
   missing_in : (end : End) (mode : Mode) (job : Job) → is_built mode ≡ true → EndsIn mode job call end → LacksText call.told job.file → (end ≡ ReadFault) ⊎ (end ≡ NoMemory)
@@ -142,7 +163,7 @@ module _ (call : Call) where
   missing_in end Build job is e m = absurd (cc)
   missing_in end Sample job is e m = absurd (cc)
   missing_in end Race job is e m = absurd (cc)
-  missing_in end Step job is e m = absurd (cc)
+  missing_in end Step job is e m = missing_step job call end e m
   missing_in end Link job is e m = absurd (cc)
 
   pub missing_end : (end : End) (o : Option Job) (job : Job) → EndsBy o call end → built o ≡ Some job → LacksText call.told job.file → (end ≡ ReadFault) ⊎ (end ≡ NoMemory)
@@ -157,6 +178,10 @@ module _ (call : Call) where
   host_run file NoMemory e rose = absurd (neither e.0 (λ u. let calm = u.calm in omega (arith, calm, rose)) (λ r. let calm = r.calm in omega (arith, calm, rose)))
   host_run file Made e rose = absurd e
   host_run file Words e rose = absurd e
+  host_run file (BadSchedule bad) e rose = absurd e
+  host_run file (BadEntry number) e rose = absurd e
+  host_run file (BadNumber count) e rose = absurd e
+  host_run file TooLarge e rose = absurd e
   host_run file (BadImage fault) e rose = absurd e
 
   host_exec : (job : Job) (end : End) → EndsExec job call end → call.host_before < call.host_after → end ≡ ReadFault
@@ -167,12 +192,16 @@ module _ (call : Call) where
   host_exec job NoMemory e rose = let calm = e.0 in absurd (omega (arith, calm, rose))
   host_exec job Made e rose = absurd e
   host_exec job Words e rose = absurd e
+  host_exec job (BadSchedule bad) e rose = absurd e
+  host_exec job (BadEntry number) e rose = absurd e
+  host_exec job (BadNumber count) e rose = absurd e
+  host_exec job TooLarge e rose = absurd e
   host_exec job (Refused reason) e rose = absurd e
 
   pub host_end : (end : End) (o : Option Job) → EndsBy o call end → call.host_before < call.host_after → end ≡ ReadFault
   host_end end o e rose =
       by_job (end ≡ ReadFault) end o (λ i. let calm = i.1.calm in absurd (omega (arith, calm, rose))) (λ job r. host_run job.file end r rose) (λ job x. host_exec job end x rose)
-      (λ job k. host_check job.file call end k rose) e
+      (λ job k. host_check job.file call end k rose) (λ job s. host_step job call end s rose) e
 
   out_run : (file : List ℕ) (end : End) → EndsRun file call end → call.out_before < call.out_after → end ≡ WriteFault
   out_run file (Ran over) e rose = let calm = e.1 in absurd (omega (arith, calm, rose))
@@ -183,6 +212,10 @@ module _ (call : Call) where
   out_run file NoMemory e rose = let calm = e.1.calm in absurd (omega (arith, calm, rose))
   out_run file Made e rose = absurd e
   out_run file Words e rose = absurd e
+  out_run file (BadSchedule bad) e rose = absurd e
+  out_run file (BadEntry number) e rose = absurd e
+  out_run file (BadNumber count) e rose = absurd e
+  out_run file TooLarge e rose = absurd e
   out_run file (BadImage fault) e rose = absurd e
 
   out_exec : (job : Job) (end : End) → EndsExec job call end → call.out_before < call.out_after → end ≡ WriteFault
@@ -193,12 +226,16 @@ module _ (call : Call) where
   out_exec job NoMemory e rose = absurd (neither e.1 (λ n. let calm = n.calm in omega (arith, calm, rose)) (λ r. let calm = r.1.ran.1 in omega (arith, calm, rose)))
   out_exec job Made e rose = absurd e
   out_exec job Words e rose = absurd e
+  out_exec job (BadSchedule bad) e rose = absurd e
+  out_exec job (BadEntry number) e rose = absurd e
+  out_exec job (BadNumber count) e rose = absurd e
+  out_exec job TooLarge e rose = absurd e
   out_exec job (Refused reason) e rose = absurd e
 
   pub out_end : (end : End) (o : Option Job) → EndsBy o call end → call.out_before < call.out_after → end ≡ WriteFault
   out_end end o e rose =
       by_job (end ≡ WriteFault) end o (λ i. let calm = i.2.calm in absurd (omega (arith, calm, rose))) (λ job r. out_run job.file end r rose) (λ job x. out_exec job end x rose)
-      (λ job k. out_check job.file call end k rose) e
+      (λ job k. out_check job.file call end k rose) (λ job s. out_step job call end s rose) e
 
   -- ---- texts and images
 
@@ -212,6 +249,10 @@ module _ (call : Call) where
     refused_run Made e none_has = absurd e
     refused_run (Refused (Text reason)) e none_has = absurd e
     refused_run Words e none_has = absurd e
+    refused_run (BadSchedule bad) e none_has = absurd e
+    refused_run (BadEntry number) e none_has = absurd e
+    refused_run (BadNumber count) e none_has = absurd e
+    refused_run TooLarge e none_has = absurd e
     refused_run (BadImage fault) e none_has = absurd e
 
     complete_run : (form : Form) (end : End) → EndsRun file call end → IsForm text form → (Faulted call.host_before call.host_after → ⊥) → (Faulted call.out_before call.out_after → ⊥)
@@ -224,6 +265,10 @@ module _ (call : Call) where
     complete_run form NoMemory e f calm calm' = inr refl
     complete_run form Made e f calm calm' = absurd e
     complete_run form Words e f calm calm' = absurd e
+    complete_run form (BadSchedule bad) e f calm calm' = absurd e
+    complete_run form (BadEntry number) e f calm calm' = absurd e
+    complete_run form (BadNumber count) e f calm calm' = absurd e
+    complete_run form TooLarge e f calm calm' = absurd e
     complete_run form (BadImage fault) e f calm calm' = absurd e
 
   module _ (job : Job) (text : List ℕ) (is : text_in call.told job.file ≡ Some text) where
@@ -238,6 +283,10 @@ module _ (call : Call) where
     refused_exec fault NoMemory e r = inr (inr refl)
     refused_exec fault Made e r = absurd e
     refused_exec fault Words e r = absurd e
+    refused_exec fault (BadSchedule bad) e r = absurd e
+    refused_exec fault (BadEntry number) e r = absurd e
+    refused_exec fault (BadNumber count) e r = absurd e
+    refused_exec fault TooLarge e r = absurd e
     refused_exec fault (Refused reason) e r = absurd e
 
     complete_exec : (image : Contents) (end : End) → EndsExec job call end → IsImage text image → (Faulted call.host_before call.host_after → ⊥) → (Faulted call.out_before call.out_after → ⊥)
@@ -249,6 +298,10 @@ module _ (call : Call) where
     complete_exec image NoMemory e f calm calm' = inr refl
     complete_exec image Made e f calm calm' = absurd e
     complete_exec image Words e f calm calm' = absurd e
+    complete_exec image (BadSchedule bad) e f calm calm' = absurd e
+    complete_exec image (BadEntry number) e f calm calm' = absurd e
+    complete_exec image (BadNumber count) e f calm calm' = absurd e
+    complete_exec image TooLarge e f calm calm' = absurd e
     complete_exec image (Refused reason) e f calm calm' = absurd e
 
   pub refused_end : (end : End) (o : Option Job) (job : Job) (text : List ℕ) → EndsBy o call end → built o ≡ Some job → job.mode ≡ Run → text_in call.told job.file ≡ Some text → HasNoForm text
@@ -290,7 +343,7 @@ module _ (call : Call) where
       on Build is = i
       on Sample is = i
       on Race is = i
-      on Step is = i
+      on Step is = absurd (cc)
       on Link is = i
 
   -- want of memory before anything was read
@@ -307,24 +360,24 @@ module _ (call : Call) where
       on Build = i
       on Sample = i
       on Race = i
-      on Step = i
+      on Step = (i.1.calm, i.2)
       on Link = i
 
   pub mode_end : (end : End) (o : Option Job) (job : Job) → o ≡ Some job → EndsIn job.mode job call end → EndsBy o call end
   mode_end end o job is e = let P : Option Job → Type 0 = λ o. EndsBy o call end in subst P (sym is) e
 
   -- the modes that are yet to come
-  pub rest_in : (end : End) (mode : Mode) (job : Job) → (mode ≡ Run → ⊥) → (mode ≡ Exec → ⊥) → (mode ≡ Check → ⊥) → EndsIdle call end → EndsIn mode job call end
-  rest_in end Run job a b c i = absurd (a refl)
-  rest_in end Exec job a b c i = absurd (b refl)
-  rest_in end Check job a b c i = absurd (c refl)
-  rest_in end Replay job a b c i = i
-  rest_in end Recorded job a b c i = i
-  rest_in end Build job a b c i = i
-  rest_in end Sample job a b c i = i
-  rest_in end Race job a b c i = i
-  rest_in end Step job a b c i = i
-  rest_in end Link job a b c i = i
+  pub rest_in : (end : End) (mode : Mode) (job : Job) → (mode ≡ Run → ⊥) → (mode ≡ Exec → ⊥) → (mode ≡ Check → ⊥) → (mode ≡ Step → ⊥) → EndsIdle call end → EndsIn mode job call end
+  rest_in end Run job a b c d i = absurd (a refl)
+  rest_in end Exec job a b c d i = absurd (b refl)
+  rest_in end Check job a b c d i = absurd (c refl)
+  rest_in end Replay job a b c d i = i
+  rest_in end Recorded job a b c d i = i
+  rest_in end Build job a b c d i = i
+  rest_in end Sample job a b c d i = i
+  rest_in end Race job a b c d i = i
+  rest_in end Step job a b c d i = absurd (d refl)
+  rest_in end Link job a b c d i = i
 
   pub run_end : (end : End) (o : Option Job) (job : Job) (file : List ℕ) → o ≡ Some job → job.mode ≡ Run → file ≡ job.file → EndsRun file call end → EndsBy o call end
   run_end end o job file is mode named e =
@@ -337,3 +390,36 @@ module _ (call : Call) where
       let F : List ℕ → Type 0 = λ file. EndsCheck file call end in
       let M : Mode → Type 0 = λ mode. EndsIn mode job call end in
       mode_end end o job is (subst M (sym mode) (subst F named e))
+
+  -- ---- stepping
+
+  pub step_refused_end : (end : End) (o : Option Job) (job : Job) (text : List ℕ) → EndsBy o call end → built o ≡ Some job → job.mode ≡ Step → text_in call.told job.file ≡ Some text → (HasProgram text → ⊥)
+      → ((r : Reason) × (end ≡ Refused (Text r)) × IsRefused text r) ⊎ ((end ≡ ReadFault) ⊎ (end ≡ NoMemory))
+  step_refused_end end o job text e b mode is none_has = refused_step job call text is none_has end (ends_step end o job e b mode)
+
+  pub missing_schedule_end : (end : End) (o : Option Job) (job : Job) (text : List ℕ) → EndsBy o call end → built o ≡ Some job → job.mode ≡ Step → text_in call.told job.file ≡ Some text → HasProgram text
+      → LacksText call.told job.schedule → (end ≡ ReadFault) ⊎ (end ≡ NoMemory)
+  missing_schedule_end end o job text e b mode is has m = missing_schedule_step job call text is has m end (ends_step end o job e b mode)
+
+  pub bad_schedule_end : (end : End) (o : Option Job) (job : Job) (text schedule : List ℕ) (fault : ScheduleFault) → EndsBy o call end → built o ≡ Some job → job.mode ≡ Step → text_in call.told job.file ≡ Some text → HasProgram text
+      → text_in call.told job.schedule ≡ Some schedule → IsBadSchedule fault schedule → (end ≡ BadSchedule fault) ⊎ ((end ≡ ReadFault) ⊎ (end ≡ NoMemory))
+  bad_schedule_end end o job text schedule fault e b mode is has named bad = bad_schedule_step job call text is has.0 has.1 has.2 schedule named fault bad end (ends_step end o job e b mode)
+
+  pub bad_number_end : (end : End) (o : Option Job) (job : Job) (text schedule : List ℕ) (h : List Entry) → EndsBy o call end → built o ≡ Some job → job.mode ≡ Step → text_in call.told job.file ≡ Some text → HasProgram text
+      → text_in call.told job.schedule ≡ Some schedule → IsSchedule schedule h → length h < job.number → (end ≡ BadNumber (length h)) ⊎ ((end ≡ ReadFault) ⊎ (end ≡ NoMemory))
+  bad_number_end end o job text schedule h e b mode is has named entries few = bad_number_step job call text is has.0 has.1 has.2 schedule named h entries few end (ends_step end o job e b mode)
+
+  pub bad_entry_end : (end : End) (o : Option Job) (job : Job) (text schedule : List ℕ) (p : Program) (h : List Entry) (k : ℕ) → EndsBy o call end → built o ≡ Some job → job.mode ≡ Step → text_in call.told job.file ≡ Some text
+      → IsAccepted text p → IsWithin p → text_in call.told job.schedule ≡ Some schedule → IsSchedule schedule h → job.number ≤ length h → IsEntryRefused p (bytes_of_region job) (first_of job h) k
+      → (end ≡ BadEntry k) ⊎ ((end ≡ TooLarge) ⊎ ((end ≡ ReadFault) ⊎ (end ≡ NoMemory)))
+  bad_entry_end end o job text schedule p h k e b mode is accepted within named entries enough refused =
+      bad_entry_step job call text is p accepted within schedule named h entries enough k refused end (ends_step end o job e b mode)
+
+  pub stepped_end : (end : End) (o : Option Job) (job : Job) (text schedule : List ℕ) (p : Program) (h : List Entry) → EndsBy o call end → built o ≡ Some job → job.mode ≡ Step → text_in call.told job.file ≡ Some text
+      → IsAccepted text p → IsWithin p → text_in call.told job.schedule ≡ Some schedule → IsSchedule schedule h → job.number ≤ length h → IsSome (run p (bytes_of_region job) (first_of job h))
+      → (Faulted call.host_before call.host_after → ⊥) → (Faulted call.out_before call.out_after → ⊥) → (end ≡ Made) ⊎ ((end ≡ TooLarge) ⊎ (end ≡ NoMemory))
+  stepped_end end o job text schedule p h e b mode is accepted within named entries enough runs calm calm' =
+      complete_step job call text is p accepted within schedule named h entries enough runs calm calm' end (ends_step end o job e b mode)
+
+  pub step_end : (end : End) (o : Option Job) (job : Job) → o ≡ Some job → job.mode ≡ Step → EndsStep job call end → EndsBy o call end
+  step_end end o job is mode e = let M : Mode → Type 0 = λ mode. EndsIn mode job call end in mode_end end o job is (subst M (sym mode) e)

@@ -1,5 +1,5 @@
 -- The mode `check`: from what its stages say to why it ends as it does, and to which end each cause has.
-use Rattle.std.proofs.Common.{◌≡◌, ℕ, ◌+◌, ◌^◌, ◌<◌, ◌≤◌, List, length, take, Option, Some, Ok, Err, Result, refl, sym, ap, ◌∙◌, subst, arith, inl, inr}
+use Rattle.std.proofs.Common.{◌≡◌, ℕ, ◌+◌, ◌^◌, ◌<◌, ◌≤◌, List, length, take, Some, Ok, Err, Result, refl, sym, ap, ◌∙◌, subst, arith, inl, inr}
 use Rattle.std.specs.Prelude.{◌⊎◌, IfOk}
 use Rattle.std.proofs.lemmas.List.{length-take, take_all}
 use Rattle.al_host.specs.Outside.{Faulted}
@@ -15,7 +15,7 @@ use Rattle.alef_run.specs.Call.{Call, WasRead, DidNothing, LacksText, text_in}
 use Rattle.alef_run.specs.Load.{LacksBytes}
 use Rattle.alef_run.specs.CheckMode.{most_of_text, HasProgram, end_of, EndsText, EndsCheck}
 use Rattle.alef_run.specs.declared.report.End.{End}
-use Rattle.alef_run.specs.declared.report.End.TheVariants.{Ran, Made, Words, ReadFault, Refused, BadImage, WriteFault, NoMemory}
+use Rattle.alef_run.specs.declared.report.End.TheVariants.{Ran, Made, Words, ReadFault, Refused, BadImage, BadSchedule, BadEntry, BadNumber, WriteFault, NoMemory, TooLarge}
 use Rattle.alef_run.specs.declared.report.Refused.TheVariants.{Form, Text}
 use Rattle.alef_run.proofs.Told.{neither, not_missing}
 
@@ -30,13 +30,16 @@ module _ (text front : List ℕ) (e : front ≡ take (2 ^ 20 + 1) text) where
   no_longer : length front ≤ length text
   no_longer = let part = ap length e ∙ length-take (2 ^ 20 + 1) text in omega (arith, part)
 
+  pub accepted_whole : (p : Program) → IsAccepted front p → IsAccepted text p
+  accepted_whole p a = let P : List ℕ → Type 0 = λ t. IsAccepted t p in subst P (whole a.read.short) a
+
   program_whole : HasProgram front → HasProgram text
-  program_whole (p, a, w) = (p, (let P : List ℕ → Type 0 = λ t. IsAccepted t p in subst P (whole a.read.short) a), w)
+  program_whole (p, a, w) = (p, accepted_whole p a, w)
 
   same_refused : (r : Reason) → length front ≤ 2 ^ 20 → IsRefused front r → IsRefused text r
   same_refused r short is = let P : List ℕ → Type 0 = λ t. IsRefused t r in subst P (whole short) is
 
-  refused_whole : (r : Reason) → IsRefused front r → IsRefused text r
+  pub refused_whole : (r : Reason) → IsRefused front r → IsRefused text r
   refused_whole (Lex f) is = same_refused (Lex f) is.0 is
   refused_whole (Parse f) is = same_refused (Parse f) is.short is
   refused_whole (Typing f) is = same_refused (Typing f) is.read.short is
@@ -63,6 +66,10 @@ module _ (file : List ℕ) (call : Call) (nothing : DidNothing call) where
     so_ended NoMemory is = (read.calm, nothing)
     so_ended (Ran over) is = absurd is
     so_ended Words is = absurd is
+    so_ended (BadSchedule bad) is = absurd is
+    so_ended (BadEntry number) is = absurd is
+    so_ended (BadNumber count) is = absurd is
+    so_ended TooLarge is = absurd is
     so_ended ReadFault is = absurd is
     so_ended (BadImage fault) is = absurd is
     so_ended WriteFault is = absurd is
@@ -81,6 +88,10 @@ module _ (file : List ℕ) (call : Call) where
   missing_check (Refused Form) e m = absurd e
   missing_check (Ran over) e m = absurd e
   missing_check Words e m = absurd e
+  missing_check (BadSchedule bad) e m = absurd e
+  missing_check (BadEntry number) e m = absurd e
+  missing_check (BadNumber count) e m = absurd e
+  missing_check TooLarge e m = absurd e
   missing_check (BadImage fault) e m = absurd e
   missing_check WriteFault e m = absurd e
 
@@ -92,6 +103,10 @@ module _ (file : List ℕ) (call : Call) where
   host_check (Refused Form) e rose = absurd e
   host_check (Ran over) e rose = absurd e
   host_check Words e rose = absurd e
+  host_check (BadSchedule bad) e rose = absurd e
+  host_check (BadEntry number) e rose = absurd e
+  host_check (BadNumber count) e rose = absurd e
+  host_check TooLarge e rose = absurd e
   host_check (BadImage fault) e rose = absurd e
   host_check WriteFault e rose = absurd e
 
@@ -103,6 +118,10 @@ module _ (file : List ℕ) (call : Call) where
   out_check (Refused Form) e rose = absurd e
   out_check (Ran over) e rose = absurd e
   out_check Words e rose = absurd e
+  out_check (BadSchedule bad) e rose = absurd e
+  out_check (BadEntry number) e rose = absurd e
+  out_check (BadNumber count) e rose = absurd e
+  out_check TooLarge e rose = absurd e
   out_check (BadImage fault) e rose = absurd e
   out_check WriteFault e rose = refl
 
@@ -115,6 +134,10 @@ module _ (file : List ℕ) (call : Call) where
     complete_check (Refused Form) e has calm = absurd e
     complete_check (Ran over) e has calm = absurd e
     complete_check Words e has calm = absurd e
+    complete_check (BadSchedule bad) e has calm = absurd e
+    complete_check (BadEntry number) e has calm = absurd e
+    complete_check (BadNumber count) e has calm = absurd e
+    complete_check TooLarge e has calm = absurd e
     complete_check (BadImage fault) e has calm = absurd e
     complete_check WriteFault e has calm = absurd e
 
@@ -126,5 +149,9 @@ module _ (file : List ℕ) (call : Call) where
     refused_check (Refused Form) e none_has = absurd e
     refused_check (Ran over) e none_has = absurd e
     refused_check Words e none_has = absurd e
+    refused_check (BadSchedule bad) e none_has = absurd e
+    refused_check (BadEntry number) e none_has = absurd e
+    refused_check (BadNumber count) e none_has = absurd e
+    refused_check TooLarge e none_has = absurd e
     refused_check (BadImage fault) e none_has = absurd e
     refused_check WriteFault e none_has = absurd e

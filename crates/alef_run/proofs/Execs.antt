@@ -12,7 +12,7 @@ use Rattle.alef_run.specs.Rounds.{history_along, IsLegal, RanTo}
 use Rattle.alef_run.specs.ExecMode.{DidExec, EndsExec, comes_to}
 use Rattle.alef_run.specs.Modes.{line_by}
 use Rattle.alef_run.specs.declared.report.End.{End}
-use Rattle.alef_run.specs.declared.report.End.TheVariants.{Ran, Made, Words, ReadFault, Refused, BadImage, WriteFault, NoMemory}
+use Rattle.alef_run.specs.declared.report.End.TheVariants.{Ran, Made, Words, ReadFault, Refused, BadImage, BadSchedule, BadEntry, BadNumber, WriteFault, NoMemory, TooLarge}
 use Rattle.alef_run.proofs.Between.{line_along, work_along}
 
 pub lacks_image : (job : Job) (call : Call) (end : End) → LacksImage job.file end call.told call.told_after call.host_before call.host_after → DidNothing call → EndsExec job call end
@@ -21,6 +21,10 @@ lacks_image job call (BadImage fault) l nothing = (l.0, l.1, nothing)
 lacks_image job call NoMemory l nothing = (l, inl nothing)
 lacks_image job call Made l nothing = absurd l
 lacks_image job call Words l nothing = absurd l
+lacks_image job call (BadSchedule bad) l nothing = absurd l
+lacks_image job call (BadEntry number) l nothing = absurd l
+lacks_image job call (BadNumber count) l nothing = absurd l
+lacks_image job call TooLarge l nothing = absurd l
 lacks_image job call (Refused reason) l nothing = absurd l
 lacks_image job call WriteFault l nothing = absurd l
 lacks_image job call (Ran over) l nothing = absurd l
@@ -53,6 +57,10 @@ ends_exec job image call WriteFault d = (image, d)
 ends_exec job image call NoMemory d = (d.read.calm, inr (image, d))
 ends_exec job image call Made d = absurd d.ran
 ends_exec job image call Words d = absurd d.ran
+ends_exec job image call (BadSchedule bad) d = absurd d.ran
+ends_exec job image call (BadEntry number) d = absurd d.ran
+ends_exec job image call (BadNumber count) d = absurd d.ran
+ends_exec job image call TooLarge d = absurd d.ran
 ends_exec job image call ReadFault d = absurd d.ran
 ends_exec job image call (Refused reason) d = absurd d.ran
 ends_exec job image call (BadImage fault) d = absurd d.ran

@@ -1,5 +1,5 @@
 -- The bounds of a job's numbers.
-use Rattle.std.proofs.Common.{◌≡◌, ℕ, ◌^◌, ◌≤◌, Bool, true, false, cond, ◌&&◌, Option, Some, None, refl, sym, subst, ◌∙◌, arith}
+use Rattle.std.proofs.Common.{◌≡◌, ℕ, ◌^◌, ◌≤◌, Bool, true, false, cond, ◌&&◌, Option, Some, None, refl, subst, arith}
 use Rattle.std.specs.Prelude.{◌==◌, nat_le, option_and_then}
 use Rattle.std.proofs.lemmas.Bool.{and_parts, leb-true}
 use Rattle.std.proofs.lemmas.Option.{same_Some}
@@ -9,7 +9,7 @@ use Rattle.clap.specs.Simple.{matches_of}
 use Rattle.clap.specs.Faults.{fault_of}
 use Rattle.al_words.specs.Command.{line}
 use Rattle.std.specs.Prelude.{List, [], ◌∷◌}
-use Rattle.al_words.specs.Job.{Given, given_by, spelled, is_number, number_in, number_or, mode_of, files_of, files_in, with_numbers, in_mode, job_given, job_unless, job_of}
+use Rattle.al_words.specs.Job.{Given, given_by, spelled, is_number, number_or, mode_of, files_of, files_in, with_numbers, in_mode, job_unless, job_of}
 use Rattle.al_words.specs.declared.job.Mode.{Mode}
 use Rattle.al_words.specs.declared.job.Job.{Job}
 

@@ -5,6 +5,9 @@ pub mod Execs
 pub mod Jobs
 pub mod Lines
 pub mod Loading
+pub mod Schedules
 pub mod Stages
+pub mod Stepping
+pub mod Steps
 pub mod Told
 pub mod Whole

@@ -9,7 +9,7 @@ use Rattle.rv_image.specs.Spelling.{IsImage}
 use Rattle.rv_image.specs.Reading.{reading}
 use Rattle.rv_image.specs.Front.{enough_of}
 use Rattle.rv_image.proofs.Fronts.{suffices}
-use Rattle.alef_run.specs.Call.{IsRead, LacksText, LeavesRest, text_in}
+use Rattle.alef_run.specs.Call.{LacksText, LeavesRest, text_in}
 use Rattle.alef_run.specs.Load.{ReadsOn}
 use Rattle.alef_run.proofs.Told.{told_as, told_then, told_at_once}
 
@@ -68,7 +68,7 @@ front_is most text bytes rest e within (inr none) =
     let short : length text ≤ most = let l = ap length same in omega (arith, l, within) in
     (sym (take_all most text short ∙ same), none ∙ sym (drop_all most text short))
 
-same_text : {A : Type 0} (o : Option A) (a b : A) → o ≡ Some a → o ≡ Some b → a ≡ b
+pub same_text : {A : Type 0} (o : Option A) (a b : A) → o ≡ Some a → o ≡ Some b → a ≡ b
 same_text o a b e f = cc
 
 pub loaded : (name : List ℕ) (o o1 o2 o3 : Option Content) (none front bytes : List ℕ) (most : ℕ) → none ≡ [] → most ≡ enough_of front → WhereTold (Finds name) o o1 → WhereTold (ReadsOn 36 none front) o1 o2

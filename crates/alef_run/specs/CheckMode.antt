@@ -1,5 +1,5 @@
 -- The mode `check`: a text is checked, and nothing runs.
-use Rattle.std.specs.Prelude.{◌≡◌, ℕ, ◌+◌, ⊤, List, Option, Some, Result, Ok, Err}
+use Rattle.std.specs.Prelude.{◌≡◌, ℕ, ◌+◌, ⊤, List, Some, Result, Ok, Err}
 use Rattle.al_typed.specs.declared.program.Program.{Program}
 use Rattle.al_typed.specs.Measures.{IsWithin}
 use Rattle.al_front.specs.Accepted.{IsAccepted, IsRefused, most}
@@ -7,7 +7,7 @@ use Rattle.al_front.specs.declared.refused.FrontStop.{FrontStop}
 use Rattle.al_front.specs.declared.refused.FrontStop.TheVariants as stop
 use Rattle.alef_run.specs.Call.{Call, WasRead, DidNothing, HostFails, text_in}
 use Rattle.alef_run.specs.declared.report.End.{End}
-use Rattle.alef_run.specs.declared.report.End.TheVariants.{Ran, Made, Words, ReadFault, Refused, BadImage, WriteFault, NoMemory}
+use Rattle.alef_run.specs.declared.report.End.TheVariants.{Ran, Made, Words, ReadFault, Refused, BadImage, BadSchedule, BadEntry, BadNumber, WriteFault, NoMemory, TooLarge}
 use Rattle.alef_run.specs.declared.report.Refused.TheVariants as because
 
 -- a text is read to its end, or to one byte past what a text has at most
@@ -32,6 +32,10 @@ EndsText text (Refused because.Form) = ⊥
 EndsText text NoMemory = ⊤
 EndsText text (Ran over) = ⊥
 EndsText text Words = ⊥
+EndsText text (BadSchedule bad) = ⊥
+EndsText text (BadEntry number) = ⊥
+EndsText text (BadNumber count) = ⊥
+EndsText text TooLarge = ⊥
 EndsText text ReadFault = ⊥
 EndsText text (BadImage fault) = ⊥
 EndsText text WriteFault = ⊥
@@ -47,5 +51,9 @@ EndsCheck file call NoMemory = (call.host_after ≡ call.host_before) × DidNoth
 EndsCheck file call (Refused because.Form) = ⊥
 EndsCheck file call (Ran over) = ⊥
 EndsCheck file call Words = ⊥
+EndsCheck file call (BadSchedule bad) = ⊥
+EndsCheck file call (BadEntry number) = ⊥
+EndsCheck file call (BadNumber count) = ⊥
+EndsCheck file call TooLarge = ⊥
 EndsCheck file call (BadImage fault) = ⊥
 EndsCheck file call WriteFault = ⊥

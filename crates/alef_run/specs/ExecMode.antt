@@ -1,5 +1,5 @@
 -- The mode `exec`: an image runs.
-use Rattle.std.specs.Prelude.{◌≡◌, ℕ, ◌⊎◌, List, [], Option, Some, Err}
+use Rattle.std.specs.Prelude.{◌≡◌, ℕ, ◌⊎◌, List, [], Some, Err}
 use Rattle.al_words.specs.declared.job.Job.{Job}
 use Rattle.rv_isa.specs.declared.image.Contents.{Contents}
 use Rattle.rv_image.specs.Spelling.{IsImage}
@@ -9,7 +9,7 @@ use Rattle.al_core.specs.History.{History, work_of}
 use Rattle.alef_run.specs.Call.{Call, WasRead, DidNothing, HostFails, text_in}
 use Rattle.alef_run.specs.Rounds.{history_along, IsLegal, RanTo}
 use Rattle.alef_run.specs.declared.report.End.{End}
-use Rattle.alef_run.specs.declared.report.End.TheVariants.{Ran, Made, Words, ReadFault, Refused, BadImage, WriteFault, NoMemory}
+use Rattle.alef_run.specs.declared.report.End.TheVariants.{Ran, Made, Words, ReadFault, Refused, BadImage, BadSchedule, BadEntry, BadNumber, WriteFault, NoMemory, TooLarge}
 
 -- what an image comes to along the schedule of a call
 abbrev pub comes_to : Contents → Job → Call → History
@@ -39,4 +39,8 @@ EndsExec job call (BadImage fault) =
     WasRead job.file enough_of call × ((text : List ℕ) → text_in call.told job.file ≡ Some text → reading text ≡ Err fault) × DidNothing call
 EndsExec job call Made = ⊥
 EndsExec job call Words = ⊥
+EndsExec job call (BadSchedule bad) = ⊥
+EndsExec job call (BadEntry number) = ⊥
+EndsExec job call (BadNumber count) = ⊥
+EndsExec job call TooLarge = ⊥
 EndsExec job call (Refused reason) = ⊥

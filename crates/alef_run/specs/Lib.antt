@@ -8,6 +8,8 @@ pub mod Modes
 pub mod Outside
 pub mod Rounds
 pub mod RunMode
+pub mod ScheduleLine
 pub mod Status
+pub mod StepMode
 pub mod TextLine
 pub mod Write

@@ -10,6 +10,7 @@ use Rattle.alef_run.specs.Call.{Call, IsUnread, DidNothing}
 use Rattle.alef_run.specs.RunMode.{EndsRun}
 use Rattle.alef_run.specs.ExecMode.{EndsExec, comes_to}
 use Rattle.alef_run.specs.CheckMode.{EndsCheck}
+use Rattle.alef_run.specs.StepMode.{EndsStep}
 use Rattle.alef_run.specs.declared.report.End.{End}
 use Rattle.alef_run.specs.declared.report.End.TheVariants.{Words, NoMemory}
 
@@ -23,7 +24,7 @@ is_built Recorded = false
 is_built Build = false
 is_built Sample = false
 is_built Race = false
-is_built Step = false
+is_built Step = true
 is_built Link = false
 
 abbrev pub built : Option Job → Option Job
@@ -47,7 +48,7 @@ EndsIn Recorded job call end = EndsIdle call end
 EndsIn Build job call end = EndsIdle call end
 EndsIn Sample job call end = EndsIdle call end
 EndsIn Race job call end = EndsIdle call end
-EndsIn Step job call end = EndsIdle call end
+EndsIn Step job call end = EndsStep job call end
 EndsIn Link job call end = EndsIdle call end
 
 abbrev pub EndsBy : Option Job → Call → End → Type 0

@@ -1,5 +1,5 @@
 -- The mode `run`, on texts of the first form.
-use Rattle.std.specs.Prelude.{◌≡◌, ◌≢◌, ℕ, ◌+◌, ◌⊎◌, List, [], length, replicate, Option, Some, None}
+use Rattle.std.specs.Prelude.{◌≡◌, ◌≢◌, ℕ, ◌+◌, ◌⊎◌, List, [], length, replicate, Some, None}
 use Rattle.al_base.specs.declared.over.Over.TheVariants.{Done}
 use Rattle.al_event.specs.declared.entry.Entry.{Entry}
 use Rattle.al_host.specs.Outside.{Faulted, WhereTold}
@@ -13,7 +13,7 @@ use Rattle.alef_run.specs.Call.{Call, WasRead, IsUnread, DidNothing, HostFails, 
 use Rattle.alef_run.specs.Outside.{GetsAll, GetsPart}
 use Rattle.alef_run.specs.declared.report.End.{End}
 use Rattle.alef_run.specs.declared.report.Refused.TheVariants as because
-use Rattle.alef_run.specs.declared.report.End.TheVariants.{Ran, Made, Words, ReadFault, Refused, BadImage, WriteFault, NoMemory}
+use Rattle.alef_run.specs.declared.report.End.TheVariants.{Ran, Made, Words, ReadFault, Refused, BadImage, BadSchedule, BadEntry, BadNumber, WriteFault, NoMemory, TooLarge}
 
 -- no text of that name has a form
 abbrev pub HasNoForm : List ℕ → Type 0
@@ -53,4 +53,8 @@ EndsRun file call NoMemory = (IsUnread call ⊎ WasRead file most_of_form call) 
 EndsRun file call (Refused (because.Text reason)) = ⊥
 EndsRun file call Made = ⊥
 EndsRun file call Words = ⊥
+EndsRun file call (BadSchedule bad) = ⊥
+EndsRun file call (BadEntry number) = ⊥
+EndsRun file call (BadNumber count) = ⊥
+EndsRun file call TooLarge = ⊥
 EndsRun file call (BadImage fault) = ⊥

@@ -1,5 +1,5 @@
 -- The exit status and the log's line of an end.
-use Rattle.std.specs.Prelude.{ℕ, zero, suc, ◌+◌, ℤ, pos, negsuc, List, [], ◌++◌, codes, unsigned_abs}
+use Rattle.std.specs.Prelude.{ℕ, zero, suc, ◌+◌, ℤ, pos, negsuc, List, [], codes, unsigned_abs}
 use Rattle.std.specs.Int.{int_rem_euclid}
 use Rattle.al_base.specs.declared.over.Over.TheVariants.{Done, Stopped, Trapped, Blocked, Spent}
 use Rattle.al_base.specs.Line.{line_of}
@@ -7,8 +7,9 @@ use Rattle.rv_image.specs.declared.fault.ImageFault.{ImageFault}
 use Rattle.rv_image.specs.declared.fault.ImageFault.TheVariants.{Short, Magic, Version, Count, Extra}
 use Rattle.alef_run.specs.Line.{naming}
 use Rattle.alef_run.specs.TextLine.{text_line}
+use Rattle.alef_run.specs.ScheduleLine.{schedule_line, entry_line, number_line}
 use Rattle.alef_run.specs.declared.report.End.{End}
-use Rattle.alef_run.specs.declared.report.End.TheVariants.{Ran, Made, Words, ReadFault, Refused, BadImage, WriteFault, NoMemory}
+use Rattle.alef_run.specs.declared.report.End.TheVariants.{Ran, Made, Words, ReadFault, Refused, BadImage, BadSchedule, BadEntry, BadNumber, WriteFault, NoMemory, TooLarge}
 use Rattle.alef_run.specs.declared.report.Refused.TheVariants.{Form, Text}
 
 -- the status of a program that stopped itself: 0 stays, all others show the lowest seven bits
@@ -29,8 +30,12 @@ status_of Words = 2
 status_of ReadFault = 3
 status_of (Refused reason) = 1
 status_of (BadImage fault) = 9
+status_of (BadSchedule fault) = 9
+status_of (BadEntry number) = 9
+status_of (BadNumber count) = 9
 status_of WriteFault = 4
 status_of NoMemory = 8
+status_of TooLarge = 8
 
 abbrev pub image_line : ImageFault → List ℕ
 image_line Short = codes "alef: image Short\n"
@@ -50,5 +55,9 @@ line_of_end line ReadFault = codes "alef: cannot read\n"
 line_of_end line (Refused Form) = codes "alef: another form\n"
 line_of_end line (Refused (Text reason)) = text_line reason
 line_of_end line (BadImage fault) = image_line fault
+line_of_end line (BadSchedule fault) = schedule_line fault
+line_of_end line (BadEntry number) = entry_line number
+line_of_end line (BadNumber count) = number_line count
 line_of_end line WriteFault = codes "alef: cannot write\n"
 line_of_end line NoMemory = codes "alef: out of memory\n"
+line_of_end line TooLarge = codes "alef: a number is too large\n"

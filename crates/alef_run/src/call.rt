@@ -1,6 +1,6 @@
 //! The top call.
 
-ghost use Rattle.std.specs.Prelude.{◌≡◌, ◌≢◌, ◌↔◌, ◌<◌, ◌⊎◌, ℕ, List, [], None, Some, Err, map, option_map};
+ghost use Rattle.std.specs.Prelude.{◌≡◌, ◌≢◌, ◌↔◌, ◌<◌, ◌≤◌, ◌⊎◌, ℕ, List, [], length, None, Some, IsSome, Err, map, option_map};
 ghost use Rattle.al_base.specs.declared.over.Over.TheVariants as Over;
 ghost use Rattle.al_base.specs.declared.over.Over.{Over as Ending};
 ghost use Rattle.al_host.specs.Outside.{Faulted, WhereTold};
@@ -12,13 +12,22 @@ ghost use Rattle.rv_isa.specs.declared.image.Contents.{Contents};
 ghost use Rattle.rv_image.specs.declared.fault.ImageFault.{ImageFault};
 ghost use Rattle.rv_image.specs.Spelling.{IsImage};
 ghost use Rattle.rv_image.specs.Reading.{reading};
-ghost use Rattle.al_front.specs.Accepted.{IsRefused};
+ghost use Rattle.al_event.specs.declared.entry.Entry.{Entry};
+ghost use Rattle.al_trace.specs.Schedule.{IsSchedule};
+ghost use Rattle.al_typed.specs.declared.program.Program.{Program};
+ghost use Rattle.al_typed.specs.Measures.{IsWithin};
+ghost use Rattle.al_meaning.specs.Meaning.{run};
+ghost use Rattle.al_front.specs.Accepted.{IsAccepted, IsRefused};
 ghost use Rattle.al_front.specs.declared.refused.Refused.{Refused as Reason};
+ghost use Rattle.al_show.specs.Walks.{IsRefused as IsEntryRefused};
 ghost use Rattle.alef_run.specs.declared.report.Refused.TheVariants as because;
+ghost use Rattle.alef_run.specs.declared.report.ScheduleFault.{ScheduleFault};
 ghost use Rattle.alef_run.specs.Status.{status_of, line_of_end};
 ghost use Rattle.alef_run.specs.Call.{LogGets, LacksText, text_in, call_by};
 ghost use Rattle.alef_run.specs.RunMode.{HasNoForm};
 ghost use Rattle.alef_run.specs.CheckMode.{HasProgram};
+ghost use Rattle.alef_run.specs.Load.{IsBadSchedule};
+ghost use Rattle.alef_run.specs.StepMode.{bytes_of_region, first_of};
 ghost use Rattle.alef_run.specs.Modes.{Ends, job_by, line_in};
 
 use crate::check::check;
@@ -26,6 +35,7 @@ use crate::exec::exec;
 use crate::first_form::run;
 use crate::outside::write_all;
 use crate::report::{End, Report, line_of};
+use crate::step::step;
 use al_host::{Host, Sink};
 use al_words::{Mode, WordsStop, read_job};
 use std::alloc::Global;
@@ -52,6 +62,7 @@ fn serve<H: Host, K: Sink>(
         Mode::Run => (run(alloc, job.file.as_str(), host, out), 0),
         Mode::Exec => exec(alloc, &job, host, out),
         Mode::Check => (check(alloc, job.file.as_str(), host), 0),
+        Mode::Step => (step(alloc, &job, host, out), 0),
         // the other modes are yet to come
         _ => (Report::nothing(alloc, End::Words), 0),
     }
@@ -70,8 +81,8 @@ fn write_line<L: Sink>(end: &End, line: u32, log: &mut L)
 
 /// The command `alef`. `run FILE` reads the text of that name, makes its code words, runs them and writes what they print;
 /// `exec IMAGE` reads the image of that name, runs it on this thread and writes what it puts out; `check FILE` reads the text of
-/// that name and says whether it is accepted, within the limits. It says what it did, and writes a line to the log where it did
-/// not end well.
+/// that name and says whether it is accepted, within the limits; `step FILE SCHEDULE` writes the world of the text after the first
+/// entries of the schedule. It says what it did, and writes a line to the log where it did not end well.
 pub fn alef<R: Threads + Wait + Sync, H: Host, K: Sink, L: Sink>(
     _rt: &R,
     alloc: Global,
@@ -102,6 +113,28 @@ pub fn alef<R: Threads + Wait + Sync, H: Host, K: Sink, L: Sink>(
         → text_in (H.content host.old) job.file ≡ Some text → ¬ (HasProgram text)
         → ((reason : Reason) × (result.end ≡ End.Refused (because.Text reason)) × IsRefused text reason) ⊎ ((result.end ≡ End.ReadFault) ⊎ (result.end ≡ End.NoMemory)) }
 
+    // The same of stepping along a schedule: the text is looked at first, then the schedule, then how many entries it has, and then
+    // the entries one after the other.
+    ensures step_refused { (job : Job) (text : List ℕ) → job_by (map (λ word. word.now) words.now) ≡ Some job → job.mode ≡ Mode.Step
+        → text_in (H.content host.old) job.file ≡ Some text → ¬ (HasProgram text)
+        → ((reason : Reason) × (result.end ≡ End.Refused (because.Text reason)) × IsRefused text reason) ⊎ ((result.end ≡ End.ReadFault) ⊎ (result.end ≡ End.NoMemory)) }
+    ensures missing_schedule { (job : Job) (text : List ℕ) → job_by (map (λ word. word.now) words.now) ≡ Some job → job.mode ≡ Mode.Step
+        → text_in (H.content host.old) job.file ≡ Some text → HasProgram text → LacksText (H.content host.old) job.schedule
+        → (result.end ≡ End.ReadFault) ⊎ (result.end ≡ End.NoMemory) }
+    ensures bad_schedule { (job : Job) (text schedule : List ℕ) (fault : ScheduleFault) → job_by (map (λ word. word.now) words.now) ≡ Some job → job.mode ≡ Mode.Step
+        → text_in (H.content host.old) job.file ≡ Some text → HasProgram text
+        → text_in (H.content host.old) job.schedule ≡ Some schedule → IsBadSchedule fault schedule
+        → (result.end ≡ End.BadSchedule fault) ⊎ ((result.end ≡ End.ReadFault) ⊎ (result.end ≡ End.NoMemory)) }
+    ensures bad_number { (job : Job) (text schedule : List ℕ) (h : List Entry) → job_by (map (λ word. word.now) words.now) ≡ Some job → job.mode ≡ Mode.Step
+        → text_in (H.content host.old) job.file ≡ Some text → HasProgram text
+        → text_in (H.content host.old) job.schedule ≡ Some schedule → IsSchedule schedule h → length h < job.number
+        → (result.end ≡ End.BadNumber (length h)) ⊎ ((result.end ≡ End.ReadFault) ⊎ (result.end ≡ End.NoMemory)) }
+    ensures bad_entry { (job : Job) (text schedule : List ℕ) (p : Program) (h : List Entry) (k : ℕ) → job_by (map (λ word. word.now) words.now) ≡ Some job → job.mode ≡ Mode.Step
+        → text_in (H.content host.old) job.file ≡ Some text → IsAccepted text p → IsWithin p
+        → text_in (H.content host.old) job.schedule ≡ Some schedule → IsSchedule schedule h → job.number ≤ length h
+        → IsEntryRefused p (bytes_of_region job) (first_of job h) k
+        → (result.end ≡ End.BadEntry k) ⊎ ((result.end ≡ End.TooLarge) ⊎ ((result.end ≡ End.ReadFault) ⊎ (result.end ≡ End.NoMemory))) }
+
     // A text of the first form and an image run to their end, and a text that is accepted within the limits is found to be so,
     // unless the world outside has a fault or memory runs out.
     ensures run { (job : Job) (text : List ℕ) (form : Form) → job_by (map (λ word. word.now) words.now) ≡ Some job → job.mode ≡ Mode.Run
@@ -115,6 +148,14 @@ pub fn alef<R: Threads + Wait + Sync, H: Host, K: Sink, L: Sink>(
     ensures check { (job : Job) (text : List ℕ) → job_by (map (λ word. word.now) words.now) ≡ Some job → job.mode ≡ Mode.Check
         → text_in (H.content host.old) job.file ≡ Some text → HasProgram text → ¬ (Faulted (H.faults host.old) (H.faults host.new))
         → (result.end ≡ End.Made) ⊎ (result.end ≡ End.NoMemory) }
+
+    // The world after entries that are permitted is shown, unless one of its numbers has no room in a word.
+    ensures step { (job : Job) (text schedule : List ℕ) (p : Program) (h : List Entry) → job_by (map (λ word. word.now) words.now) ≡ Some job → job.mode ≡ Mode.Step
+        → text_in (H.content host.old) job.file ≡ Some text → IsAccepted text p → IsWithin p
+        → text_in (H.content host.old) job.schedule ≡ Some schedule → IsSchedule schedule h → job.number ≤ length h
+        → IsSome (run p (bytes_of_region job) (first_of job h))
+        → ¬ (Faulted (H.faults host.old) (H.faults host.new)) → ¬ (Faulted (K.faults out.old) (K.faults out.new))
+        → (result.end ≡ End.Made) ⊎ ((result.end ≡ End.TooLarge) ⊎ (result.end ≡ End.NoMemory)) }
 {
     let (report, line) = serve(alloc, words, host, out);
     write_line(&report.end, line, log);

@@ -12,6 +12,8 @@ mod outside;
 mod refusal;
 mod report;
 mod rounds;
+mod schedule;
+mod step;
 
 pub use call::alef;
-pub use report::{End, Refused, Report};
+pub use report::{End, Refused, Report, ScheduleFault};

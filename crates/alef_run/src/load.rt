@@ -1,4 +1,4 @@
-//! From a name to the text or the image under it.
+//! From a name to the text, the image or the schedule under it.
 
 ghost use Rattle.std.specs.Prelude.{◌≡◌, ◌≢◌, ◌≤◌, ◌⊎◌, ℕ, List, Some, None, length, take, drop, OnOk, OnErr, IfOk, IfErr};
 ghost use Rattle.al_host.specs.Outside.{Faulted, WhereTold};
@@ -6,12 +6,14 @@ ghost use Rattle.rv_image.specs.Spelling.{IsImage};
 ghost use Rattle.rv_image.specs.Front.{enough_of};
 ghost use Rattle.alef_run.specs.Call.{IsRead, text_in, LacksText, LeavesRest};
 ghost use Rattle.alef_run.specs.CheckMode.{most_of_text};
-ghost use Rattle.alef_run.specs.Load.{ReadsOn, StopsReading, LacksBytes, LacksImage};
+ghost use Rattle.alef_run.specs.Load.{ReadsOn, StopsReading, KeepsTexts, LacksBytes, LacksImage, IsScheduleRead, LacksSchedule};
 
 use crate::outside::read_front;
-use crate::report::End;
+use crate::report::{End, ScheduleFault};
 use al_base::Failed;
+use al_event::Entry;
 use al_host::Host;
+use al_trace::TraceStop;
 use rv_image::{ImageStop, enough, read};
 use rv_isa::image::Image;
 use std::alloc::Global;
@@ -70,6 +72,7 @@ fn read_on<H: Host>(host: &mut H, bytes: &mut Vec<u8>, most: usize) -> Result<()
 pub(crate) fn load_text<H: Host>(alloc: Global, host: &mut H, name: &str) -> Result<Vec<u8>, End>
     ensures read { OnOk result (IsRead name.now most_of_text (H.content host.old) (H.content host.new) (H.faults host.old) (H.faults host.new)) }
     ensures text { IfOk result (λ bytes. (text : List ℕ) → text_in (H.content host.old) name.now ≡ Some text → bytes.items ≡ take (most_of_text text) text) }
+    ensures same { OnOk result (KeepsTexts (H.content host.old) (H.content host.new)) }
     ensures none { IfErr result (λ end. LacksBytes name.now end (H.content host.old) (H.faults host.old) (H.faults host.new)) }
 {
     match host.find(name) {
@@ -99,5 +102,27 @@ pub(crate) fn load_image<H: Host>(alloc: Global, host: &mut H, name: &str) -> Re
         Ok(image) => Ok(image),
         Err(ImageStop::Fault(fault)) => Err(End::BadImage(fault)),
         Err(ImageStop::NoMemory) => Err(End::NoMemory),
+    }
+}
+
+/// Reads the schedule of that name to its end.
+pub(crate) fn load_schedule<H: Host>(
+    alloc: Global,
+    host: &mut H,
+    name: &str,
+) -> Result<Vec<Entry>, End>
+    ensures read { IfOk result (λ entries. IsScheduleRead name.now entries.items (H.content host.old) (H.content host.new) (H.faults host.old) (H.faults host.new)) }
+    ensures none { IfErr result (λ end. LacksSchedule name.now end (H.content host.old) (H.faults host.old) (H.faults host.new)) }
+{
+    match host.find(name) {
+        Ok(()) => (),
+        Err(_) => return Err(End::ReadFault),
+    }
+    match al_trace::read(alloc, host) {
+        Ok(entries) => Ok(entries),
+        Err(TraceStop::ReadFault) => Err(End::ReadFault),
+        Err(TraceStop::BadLine(line)) => Err(End::BadSchedule(ScheduleFault::Line(line))),
+        Err(TraceStop::TooLong) => Err(End::BadSchedule(ScheduleFault::TooLong)),
+        Err(TraceStop::NoMemory) => Err(End::NoMemory),
     }
 }

@@ -3,6 +3,7 @@ ghost use Rattle.alef_run.specs.Status.{stopped, status_of, image_line, line_of_
 
 use crate::line::trap_line;
 use crate::refusal::text_line;
+use crate::schedule::{entry_line, number_line, schedule_line};
 use al_base::{Over, over_line};
 use al_event::Entry;
 use al_items::Items;
@@ -20,12 +21,21 @@ pub enum Refused {
     Text(al_front::Refused),
 }
 
+/// Why bytes are no schedule.
+#[derive(Clone, Copy, Debug, PartialEq, Eq)]
+pub enum ScheduleFault {
+    /// The first line that is not right, counted from 1.
+    Line(u64),
+    /// More bytes follow after as many lines as there can be.
+    TooLong,
+}
+
 /// How a call ended.
 #[derive(Clone, Copy, Debug, PartialEq, Eq)]
 pub enum End {
     /// The program ran, and was over like this.
     Ran(Over),
-    /// What was asked for was done, and it was no run: the text is accepted, within the limits.
+    /// What was asked for was done, and it was no run: the text is accepted, within the limits, or its world was shown.
     Made,
     /// The words are no job.
     Words,
@@ -35,10 +45,18 @@ pub enum End {
     Refused(Refused),
     /// The bytes are no image.
     BadImage(ImageFault),
+    /// The bytes are no schedule.
+    BadSchedule(ScheduleFault),
+    /// That entry of the schedule, counted from 0, is the first that is not permitted.
+    BadEntry(u64),
+    /// The schedule has so many entries, which are fewer than were asked for.
+    BadNumber(u64),
     /// The output did not go out whole.
     WriteFault,
     /// There was not enough memory.
     NoMemory,
+    /// A number of the program has no room in a word.
+    TooLarge,
 }
 
 /// What a call did.
@@ -103,8 +121,9 @@ pub(crate) fn status_of(end: &End) -> u8
         End::ReadFault => 3,
         End::Refused(_) => 1,
         End::BadImage(_) => 9,
+        End::BadSchedule(_) | End::BadEntry(_) | End::BadNumber(_) => 9,
         End::WriteFault => 4,
-        End::NoMemory => 8,
+        End::NoMemory | End::TooLarge => 8,
     }
 }
 
@@ -152,7 +171,20 @@ pub(crate) fn line_of<'a>(end: &End, line: u32, buf: &'a mut [u8; 80]) -> &'a [u
             &buf[..len]
         }
         End::BadImage(fault) => image_line(*fault),
+        End::BadSchedule(fault) => {
+            let len = schedule_line(buf, *fault);
+            &buf[..len]
+        }
+        End::BadEntry(number) => {
+            let len = entry_line(buf, *number);
+            &buf[..len]
+        }
+        End::BadNumber(count) => {
+            let len = number_line(buf, *count);
+            &buf[..len]
+        }
         End::WriteFault => b"alef: cannot write\n",
         End::NoMemory => b"alef: out of memory\n",
+        End::TooLarge => b"alef: a number is too large\n",
     }
 }

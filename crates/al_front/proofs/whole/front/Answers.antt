@@ -9,4 +9,4 @@ returns-in_err-tree-clause-made c =
     made_stops c.args.text.now c.from_residual.result _ (p.1 ∙ ap Err p.2) c.in_err-tree.ensures.whole
 
 pub returns-clause-made : goal.returns-clause-made
-returns-clause-made c = made_is c.args.text.now c.program_of.result c.in_ok-tree.tree c.program_of.ensures c.in_ok-tree.ensures.whole
+returns-clause-made c = made_is c.args.text.now c.program_of.result c.in_ok-tree.tree c.program_of.ensures.answer c.in_ok-tree.ensures.whole

@@ -1,5 +1,5 @@
 use Rattle.alef_run.proofs.Jobs.{job_bounded}
-use Rattle.alef_run.proofs.Causes.{run_end, check_end}
+use Rattle.alef_run.proofs.Causes.{run_end, check_end, step_end}
 use Rattle.alef_run.proofs.call.serve.Goals as goal
 
 pub returns-in-Run-clause-end : goal.returns-in-Run-clause-end
@@ -20,3 +20,12 @@ exec-requires-clause-some_entries g c = (job_bounded _ c.in-Ok.job c.in-Ok.ensur
 
 pub exec-requires-clause-entries : goal.exec-requires-clause-entries
 exec-requires-clause-entries g c = (job_bounded _ c.in-Ok.job c.in-Ok.ensures).entries
+
+pub returns-in-Step-clause-end : goal.returns-in-Step-clause-end
+returns-in-Step-clause-end g c = step_end _ c.step.result.end _ c.in-Ok.job c.in-Ok.ensures c.in-Step.is c.step.ensures.end
+
+pub step-requires-clause-some_region : goal.step-requires-clause-some_region
+step-requires-clause-some_region g c = (job_bounded _ c.in-Ok.job c.in-Ok.ensures).some_region
+
+pub step-requires-clause-region : goal.step-requires-clause-region
+step-requires-clause-region g c = (job_bounded _ c.in-Ok.job c.in-Ok.ensures).region
