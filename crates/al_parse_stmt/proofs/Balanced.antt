@@ -182,8 +182,8 @@ closed F c u r b g s =
     ∙ ap (λ j. pass_open j 0 r) (some_pred (pred m) 0 left)
     ∙ ended (pred (pred m)) r
 
-passed_group : (F : ℕ) (kd : TokenKind) (o c : Token) (u r : List Token) → o.kind ≡ kd → same_kind kd kd ≡ true → Balanced u → Closes c.kind → length (o ∷ (u ++ (c ∷ r))) < F → pass_group F kd (o ∷ (u ++ (c ∷ r))) ≡ Ok (0, r)
-passed_group F kd o c u r oc e b g s = enter F kd o (u ++ (c ∷ r)) oc e ∙ closed F c u r b g (omega (arith, s, length-append u (c ∷ r)))
+passed_group : (F : ℕ) (kd : TokenKind) (o c : Token) (u r : List Token) → o.kind ≡ kd → same_kind kd kd ≡ true → Balanced u → Closes c.kind → length u + 1 < F → pass_group F kd (o ∷ (u ++ (c ∷ r))) ≡ Ok (0, r)
+passed_group F kd o c u r oc e b g s = enter F kd o (u ++ (c ∷ r)) oc e ∙ closed F c u r b g s
 
 basic_passed : (F : ℕ) (kd : TokenKind) (x : BasicType) (t : Token) (r : List Token) → basic_type kd ≡ Some x → pass_base_by F kd (t ∷ r) ≡ Ok (0, r)
 unfolding take_if
@@ -225,34 +225,34 @@ same_bracket = refl
 
 module _ (leaves : Leaves) (types : List ℕ) where
   -- a base type is passed where no bracket stands behind it
-  pub passes : {takes : Bool} {u : List Token} {x : TypeTree} {h : ℕ} → IsBase leaves types true takes u x h → (F : ℕ) (r : List Token) → same_kind (kind r) k.LeftBracket ≡ false → length (u ++ r) < F → pass_base F (u ++ r) ≡ Ok (0, r)
+  pub passes : {takes : Bool} {u : List Token} {x : TypeTree} {h : ℕ} → IsBase leaves types true takes u x h → (F : ℕ) (r : List Token) → same_kind (kind r) k.LeftBracket ≡ false → length u < F → pass_base F (u ++ r) ≡ Ok (0, r)
   passes (rules.basic t {x = x} c) F r f s = by_first F t r t.kind refl ∙ basic_passed F t.kind x t r c
   passes (rules.named t (type_name c e)) F r f s = by_first F t r k.Name c ∙ pass_name F t r ∙ no_group F k.LeftBracket r f
   passes (rules.instance t o c {u = u} (type_name tc e) oc l ec) F r f s =
       let cut : (u ++ c ∷ []) ++ r ≡ u ++ (c ∷ r) = append_assoc u (c ∷ []) r in
       ap (λ m. pass_base F (t ∷ o ∷ m)) cut
       ∙ by_first F t (o ∷ (u ++ (c ∷ r))) k.Name tc ∙ pass_name F t (o ∷ (u ++ (c ∷ r)))
-      ∙ passed_group F k.LeftBracket o c u r oc same_bracket (types_b leaves types l) (bracket_closes c ec) (omega (arith, s, ap length cut))
+      ∙ passed_group F k.LeftBracket o c u r oc same_bracket (types_b leaves types l) (bracket_closes c ec) (omega (arith, s, length-append u (c ∷ [])))
   passes (rules.tuple w o c {u = u} wc oc l ec) F r f s =
       let cut : (u ++ c ∷ []) ++ r ≡ u ++ (c ∷ r) = append_assoc u (c ∷ []) r in
       ap (λ m. pass_base F (w ∷ o ∷ m)) cut
       ∙ by_first F w (o ∷ (u ++ (c ∷ r))) k.Tuple wc ∙ pass_tuple F w (o ∷ (u ++ (c ∷ r)))
-      ∙ passed_group F k.LeftParen o c u r oc same_paren (parts_b leaves types l) (paren_closes c ec) (omega (arith, s, ap length cut))
+      ∙ passed_group F k.LeftParen o c u r oc same_paren (parts_b leaves types l) (paren_closes c ec) (omega (arith, s, length-append u (c ∷ [])))
   passes (rules.bare_tuple o c {u = u} oc l ec) F r f s =
       let cut : (u ++ c ∷ []) ++ r ≡ u ++ (c ∷ r) = append_assoc u (c ∷ []) r in
       ap (λ m. pass_base F (o ∷ m)) cut
       ∙ by_first F o (u ++ (c ∷ r)) k.LeftParen oc
-      ∙ passed_group F k.LeftParen o c u r oc same_paren (parts_b leaves types l) (paren_closes c ec) (omega (arith, s, ap length cut))
+      ∙ passed_group F k.LeftParen o c u r oc same_paren (parts_b leaves types l) (paren_closes c ec) (omega (arith, s, length-append u (c ∷ [])))
   passes (rules.channel w o c {u = u} wc oc a ec) F r f s =
       let cut : (u ++ c ∷ []) ++ r ≡ u ++ (c ∷ r) = append_assoc u (c ∷ []) r in
       ap (λ m. pass_base F (w ∷ o ∷ m)) cut
       ∙ by_first F w (o ∷ (u ++ (c ∷ r))) k.Chan wc
-      ∙ pass_channel F w (o ∷ (u ++ (c ∷ r))) r (passed_group F k.LeftParen o c u r oc same_paren (tree_b leaves types a) (paren_closes c ec) (omega (arith, s, ap length cut)))
+      ∙ pass_channel F w (o ∷ (u ++ (c ∷ r))) r (passed_group F k.LeftParen o c u r oc same_paren (tree_b leaves types a) (paren_closes c ec) (omega (arith, s, length-append u (c ∷ []))))
       ∙ no_group F k.LeftBracket r f
   passes (rules.buffered w o c p q {u = u} {v = v} wc oc a ec pc b qc) F r f s =
       let cut : (u ++ c ∷ p ∷ (v ++ q ∷ [])) ++ r ≡ u ++ (c ∷ p ∷ (v ++ (q ∷ r))) = append_assoc u (c ∷ p ∷ (v ++ q ∷ [])) r ∙ ap (λ m. u ++ c ∷ p ∷ m) (append_assoc v (q ∷ []) r) in
       let back : List Token = p ∷ (v ++ (q ∷ r)) in
       ap (λ m. pass_base F (w ∷ o ∷ m)) cut
       ∙ by_first F w (o ∷ (u ++ (c ∷ back))) k.Chan wc
-      ∙ pass_channel F w (o ∷ (u ++ (c ∷ back))) back (passed_group F k.LeftParen o c u back oc same_paren (tree_b leaves types a) (paren_closes c ec) (omega (arith, s, ap length cut)))
-      ∙ passed_group F k.LeftBracket p q v r pc same_bracket (bound_b leaves types b) (bracket_closes q qc) (omega (arith, s, ap length cut, length-append u (c ∷ back)))
+      ∙ pass_channel F w (o ∷ (u ++ (c ∷ back))) back (passed_group F k.LeftParen o c u back oc same_paren (tree_b leaves types a) (paren_closes c ec) (omega (arith, s, length-append u (c ∷ p ∷ (v ++ q ∷ [])), length-append v (q ∷ []))))
+      ∙ passed_group F k.LeftBracket p q v r pc same_bracket (bound_b leaves types b) (bracket_closes q qc) (omega (arith, s, length-append u (c ∷ p ∷ (v ++ q ∷ [])), length-append v (q ∷ [])))

@@ -271,12 +271,12 @@ module _ (leaves : Leaves) (F n : ℕ) (d : Declared) where
   global_set at s t q ts r1 r bs h x e qc room e2 = rw (e, qc, room, e2) refl
 
   owned_dot : (at : Place) (s : ℕ) (a p : Token) (r : List Token) → type_name d.types (a ∷ p ∷ r) ≡ Ok (a, p ∷ r) → p.kind ≡ k.Dot → parse.owned_declarator leaves F n d at s (a ∷ p ∷ r) ≡ parse.owned_head leaves d.types F n at s (record { adt = name_at a; parameters = [] }) r
-  unfolding parse.owned_declarator kind same_kind take_if expect_if
+  unfolding parse.owned_declarator parse.owned_after parse.bracketed parse.dotted kind same_kind take_if expect_if
   owned_dot at s a p r e pc = rw (e, pc) refl
 
   owned_bracket : (at : Place) (s : ℕ) (a l : Token) (r : List Token) → type_name d.types (a ∷ l ∷ r) ≡ Ok (a, l ∷ r) → l.kind ≡ k.LeftBracket
       → parse.owned_declarator leaves F n d at s (a ∷ l ∷ r) ≡ parse.parametrised_head leaves (with_names d.types (parameters_of d.adts a.name)) F n at s a r
-  unfolding parse.owned_declarator kind same_kind take_if
+  unfolding parse.owned_declarator parse.owned_after parse.bracketed parse.dotted kind same_kind take_if
   owned_bracket at s a l r e lc = rw (e, lc) refl
 
   pub head_c : {inside : List ℕ} {u : List Token} {x : Head} {h : ℕ} → IsHead leaves d inside u x h → h ≤ n → (r : List Token) → length (u ++ r) < F → declarator leaves F n d (u ++ r) ≡ Ok ((dec.Function x, h), r)

@@ -1,5 +1,5 @@
 -- What the parser of declarators at file level reads is a declarator.
-use Rattle.std.proofs.Common.{◌≡◌, ℕ, zero, suc, max, nat_lt, true, false, if◌then◌else◌, List, [], ◌∷◌, ◌++◌, Some, None, Ok, refl, sym, ap, ◌∙◌, subst, append_assoc, append-nil}
+use Rattle.std.proofs.Common.{◌≡◌, ℕ, zero, suc, max, nat_lt, true, false, if◌then◌else◌, List, [], ◌∷◌, ◌++◌, Option, Some, None, Ok, Err, refl, sym, ap, ◌∙◌, subst, append_assoc, append-nil}
 use Rattle.al_base.specs.declared.place.Place.{Place}
 use Rattle.al_lex.specs.declared.kind.TokenKind.TheVariants as k
 use Rattle.al_lex.specs.declared.token.Token.{Token}
@@ -7,7 +7,7 @@ use Rattle.al_tree.specs.Words.{start}
 use Rattle.al_tree.specs.Types.{Leaves, known, with_names, name_at, IsTypeName, type_name as is_type, IsOtherName, AreStars, IsDcl, dcl as is_dcl}
 use Rattle.al_tree.specs.Items.{Declared, parameters_of, AreTypeNames, AreNewNames, IsParameterList, IsDeclarator, IsDeclarators}
 use Rattle.al_tree.specs.Items as items
-use Rattle.al_tree.specs.Reading.{Parser, ◌>>=◌, ◌>>◌, pure, refuse, kind, name_number, same_kind, peek, take_if, expect}
+use Rattle.al_tree.specs.Reading.{Outcome, Parser, ◌>>=◌, ◌>>◌, pure, refuse, kind, name_number, same_kind, peek, take_if, expect}
 use Rattle.al_tree.specs.declared.expression.Name.{Name}
 use Rattle.al_tree.specs.declared.type_tree.Bound.{Bound}
 use Rattle.al_tree.specs.declared.type_tree.Dcl.{Dcl}
@@ -22,7 +22,7 @@ use Rattle.al_parse_member.specs.Members.{SizedInitializer, initializer}
 use Rattle.al_parse_member.proofs.Sound.{Sound, pure_sound, refuse_sound, bind_sound, choose_sound, look_sound, take_sound, expect_sound, map_sound, relang_sound, guard_sound}
 use Rattle.al_parse_member.proofs.ParameterSound.{type_name_sound, other_name_sound, stars, all_bounds, list_sound}
 use Rattle.al_parse_member.proofs.MemberSound.{initializer_sound}
-use Rattle.al_parse_stmt.specs.Ahead.{parameters_by}
+use Rattle.al_parse_stmt.specs.Ahead.{some_parameters, owner_by, owner_ahead, inside_of}
 use Rattle.al_parse_stmt.specs.Heads as parse
 use Rattle.al_parse_stmt.specs.Heads.{SizedDeclarator, Declarators, headed}
 use Rattle.al_parse_stmt.proofs.Facts.{fact_sound, bind_known, type_name_known, other_name_known}
@@ -45,8 +45,32 @@ owner_behind types turns = do
   next ← peek
   if same_kind next k.LeftBracket then pure a.name else refuse
 
+-- its parameters
+abbrev pub parameters_by : Declared → Outcome ℕ → List ℕ
+parameters_by d (Ok x) = parameters_of d.adts x.0
+parameters_by d (Err e) = []
+
+pub inside_by : (d : Declared) (o : Outcome ℕ) → inside_of d (owner_by d o) ≡ parameters_by d o
+inside_by d (Err e) = refl
+inside_by d (Ok x) = by (parameters_of d.adts x.0) refl
+  where
+    by : (xs : List ℕ) → parameters_of d.adts x.0 ≡ xs → inside_of d (if some_parameters xs then Some x.0 else None) ≡ parameters_of d.adts x.0
+    by [] e = sym e
+    by (n ∷ ns) e = refl
+
+-- that adt, past a base type too
+unfoldable pub inside_ahead : Declared → ℕ → List Token → List ℕ
+inside_ahead d turns ts = parameters_by d (owner_ahead d.types turns ts)
+
+unfoldable pub owner_at : Declared → ℕ → List Token → Option ℕ
+owner_at d turns ts = owner_by d (owner_behind d.types turns ts)
+
 unfoldable pub inside_behind : Declared → ℕ → List Token → List ℕ
 inside_behind d turns ts = parameters_by d (owner_behind d.types turns ts)
+
+pub inside_at : (d : Declared) (turns : ℕ) (ts : List Token) → inside_of d (owner_at d turns ts) ≡ inside_behind d turns ts
+unfolding owner_at inside_behind
+inside_at d turns ts = inside_by d (owner_behind d.types turns ts)
 
 pub reads_type_name : (types : List ℕ) (a : Token) (r : List Token) → a.kind ≡ k.Name → known types a.name ≡ true → type_name types (a ∷ r) ≡ Ok (a, r)
 unfolding type_name sees_type_name kind name_number same_kind take_if
@@ -192,7 +216,7 @@ module _ (leaves : Leaves) (F n : ℕ) (d : Declared) where
   Behind inside at v s r = ((inside_behind d F (v ++ r) ≡ inside) × (start (v ++ r) ≡ at)) × (stars_from F 0 (v ++ r) ≡ Ok (s, r))
 
   owned_sound : (inside : List ℕ) (at : Place) (v : List Token) (s : ℕ) → AreStars leaves d.types v s → Sound F (Behind inside at v s) (parse.owned_declarator leaves F n d at s) (λ r y. LDeclarator inside (v ++ r) y)
-  unfolding parse.owned_declarator
+  unfolding parse.owned_declarator parse.owned_after parse.bracketed parse.dotted
   owned_sound inside at v s st = type_name_known leaves d.types (λ a ts. (if same_kind (kind ts) k.LeftBracket then (take_if true >>= (λ _. parse.parametrised_head leaves (types_of a) F n at s a)) else (expect k.Dot >>= (λ _. parse.owned_head leaves d.types F n at s (record { adt = name_at a; parameters = [] })))) ts)
       (λ a c. fact_sound (λ ts g. sym (same_start v a ts) ∙ g.0.1) (λ p.
       look_sound kind (λ next. if same_kind next k.LeftBracket then (take_if true >>= (λ _. parse.parametrised_head leaves (types_of a) F n at s a)) else (expect k.Dot >>= (λ _. parse.owned_head leaves d.types F n at s (record { adt = name_at a; parameters = [] }))))

@@ -18,6 +18,7 @@ use Rattle.al_parse_type.proofs.TypeLaw.{type_name_local}
 use Rattle.al_parse_member.proofs.Steady.{Steady, pure_steady, bind_steady, map_steady, choose_steady, look_steady, fewer, anywhere, take_steady, one_steady, expect_steady}
 use Rattle.al_parse_member.proofs.ParameterSteady.{ask_steady, stars_steady, bounds_steady, type_name_steady, other_name_steady, list_steady}
 use Rattle.al_parse_member.proofs.MemberSteady.{initializer_steady}
+use Rattle.al_parse_stmt.specs.declared.heads.FirstName.{FirstName}
 use Rattle.al_parse_stmt.specs.Heads as parse
 
 module _ (leaves : Leaves) (types : List ℕ) (F n F2 n2 : ℕ) (turns : F ≤ F2) (low : n ≤ n2) where
@@ -57,16 +58,27 @@ module _ (leaves : Leaves) (types : List ℕ) (F n F2 n2 : ℕ) (turns : F ≤ F
   unfolding parse.plain_head
   plain_steady {K} f at stars t = one_steady _ _ (λ o. map_steady (λ ps. parse.headed at stars None t ps) (list_steady leaves types F n F2 n2 turns low (down_fits K F f)))
 
+  pub named_after_steady : {K : ℕ} → K ≤ F → (at : Place) (stars : ℕ) (t : Token) → Steady K Any (parse.named_after leaves types F n at stars t) (parse.named_after leaves types F2 n2 at stars t)
+  named_after_steady f at stars t = ask_steady k.LeftParen _ _ _ _ (plain_steady f at stars t) (global_steady f at stars t)
+
   pub named_steady : {K : ℕ} → K ≤ F → (at : Place) (stars : ℕ) → Steady K Any (parse.named_declarator leaves types F n at stars) (parse.named_declarator leaves types F2 n2 at stars)
   unfolding parse.named_declarator
-  named_steady {K} f at stars = other_name_steady leaves types _ _ (λ t. ask_steady k.LeftParen _ _ _ _ (plain_steady (down_fits K F f) at stars t) (global_steady (down_fits K F f) at stars t))
+  named_steady {K} f at stars = other_name_steady leaves types _ _ (λ t. named_after_steady (down_fits K F f) at stars t)
 
 module _ (leaves : Leaves) (d : Declared) (F n F2 n2 : ℕ) (turns : F ≤ F2) (low : n ≤ n2) where
+  owned_after_steady : {K : ℕ} → K ≤ F → (at : Place) (stars : ℕ) (a : Token) → Steady K Any (parse.owned_after leaves F n d at stars a) (parse.owned_after leaves F2 n2 d at stars a)
+  unfolding parse.owned_after parse.bracketed parse.dotted
+  owned_after_steady {K} f at stars a = ask_steady k.LeftBracket _ _ _ _
+      (one_steady _ _ (λ o. parametrised_steady leaves (with_names d.types (parameters_of d.adts a.name)) F n F2 n2 turns low (down_fits K F f) at stars a))
+      (expect_steady k.Dot _ _ (λ p. owned_head_steady leaves d.types F n F2 n2 turns low (down_fits K F f) at stars (record { adt = name_at a; parameters = [] })))
+
   owned_steady : {K : ℕ} → K ≤ F → (at : Place) (stars : ℕ) → Steady K Any (parse.owned_declarator leaves F n d at stars) (parse.owned_declarator leaves F2 n2 d at stars)
   unfolding parse.owned_declarator
-  owned_steady {K} f at stars = type_name_steady leaves d.types _ _ (λ a. ask_steady k.LeftBracket _ _ _ _
-      (one_steady _ _ (λ o. parametrised_steady leaves (with_names d.types (parameters_of d.adts a.name)) F n F2 n2 turns low (down_fits (pred K) F (down_fits K F f)) at stars a))
-      (expect_steady k.Dot _ _ (λ p. owned_head_steady leaves d.types F n F2 n2 turns low (down_fits (pred K) F (down_fits K F f)) at stars (record { adt = name_at a; parameters = [] }))))
+  owned_steady {K} f at stars = type_name_steady leaves d.types _ _ (λ a. owned_after_steady (down_fits K F f) at stars a)
+
+  pub after_steady : {K : ℕ} → K ≤ F → (y : FirstName) → Steady K Any (parse.declarator_after leaves F n d y) (parse.declarator_after leaves F2 n2 d y)
+  unfolding parse.declarator_after
+  after_steady f y = choose_steady y.owned (λ yes. owned_after_steady f y.at y.stars y.name) (λ no. named_after_steady leaves d.types F n F2 n2 turns low f y.at y.stars y.name)
 
   pub declarator_steady : {K : ℕ} → K ≤ F → Steady K Any (parse.declarator leaves F n d) (parse.declarator leaves F2 n2 d)
   unfolding parse.declarator

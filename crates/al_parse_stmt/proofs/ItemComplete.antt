@@ -41,14 +41,16 @@ use Rattle.al_parse_member.specs.Parameters.{Parameters, parameter_list}
 use Rattle.al_parse_member.specs.Members.{Members, AdtMembers, Constants, enum_body, members_within, adt_body}
 use Rattle.al_parse_member.proofs.ParameterComplete.{parameter_list_c as list_c}
 use Rattle.al_parse_member.proofs.MemberComplete.{members_within_c, adt_body_c, enum_body_c, adt_members_high}
-use Rattle.al_parse_stmt.specs.Ahead.{inside_of}
-use Rattle.al_parse_stmt.specs.Heads.{SizedDeclarator, new_names_from, declarator, declarators_from}
+use Rattle.al_parse_stmt.specs.declared.heads.FirstName.{FirstName}
+use Rattle.al_parse_stmt.specs.Ahead.{owner_of, inside_of}
+use Rattle.al_parse_stmt.specs.Begun.{Begun, owners, settled, begins, begun_as, begun}
+use Rattle.al_parse_stmt.specs.Heads.{SizedDeclarator, new_names_from, declarator, declarator_after, declarators_from}
 use Rattle.al_parse_stmt.specs.Parse as parse
 use Rattle.al_parse_stmt.specs.Parse.{ReadItem, built}
-use Rattle.al_parse_stmt.proofs.Facts.{start_behind}
-use Rattle.al_parse_stmt.proofs.HeadSound.{same_start}
+use Rattle.al_parse_stmt.proofs.Facts.{never_ok, start_behind}
+use Rattle.al_parse_stmt.proofs.HeadSound.{same_start, owner_at, inside_behind, inside_at}
+use Rattle.al_parse_stmt.proofs.Begins.{tie as name_tie, owner_is, from_parts}
 use Rattle.al_parse_stmt.proofs.HeadComplete.{Follow, no_brace, semicolon_follows, not_kind, is_kind, reads_other_name, whole_new_names, head_c, declarator_c, declarators_c, end_declarators, inside_declarators, inside_function, head_begins, declarators_begin}
-use Rattle.al_parse_stmt.proofs.ItemSound.{inside_is}
 
 -- no item begins so
 abbrev pub NoSemicolon : List Token → Type 0
@@ -327,10 +329,28 @@ module _ (leaves : Leaves) (F n : ℕ) (d : Declared) where
 
   -- ---- declarations and functions
 
-  step_declared : (at : Place) (scope : Option Scope) (inside : List ℕ) (ts r1 r2 : List Token) (b : ReadBase) (x : SizedDeclarator) → inside_of d F ts ≡ inside → base_within leaves (with_names d.types inside) F n ts ≡ Ok (b, r1) → declarator leaves F n d r1 ≡ Ok (x, r2)
-      → parse.declared leaves F n d at scope ts ≡ parse.behind_first leaves F n d at scope b x.0 x.1 r2
+  -- what is read in the way that is found ahead is read
+  begun_is : (owner : Option ℕ) (ts r : List Token) (y : Begun) → owner_of d F ts ≡ owner → begun_as leaves F n d owner ts ≡ Ok (y, r) → begun leaves F n d ts ≡ Ok (y, r)
+  unfolding begun
+  begun_is owner ts r y e h = ap (λ o. settled (λ o. begun_as leaves F n d o ts) (owners d.adts) (begun_as leaves F n d o ts)) e ∙ ap (settled (λ o. begun_as leaves F n d o ts) (owners d.adts)) h
+
+  declared_is : (at : Place) (scope : Option Scope) (ts r1 r2 : List Token) (y : Begun) (x : SizedDeclarator) → begun leaves F n d ts ≡ Ok (y, r1) → declarator_after leaves F n d y.1 r1 ≡ Ok (x, r2)
+      → parse.declared leaves F n d at scope ts ≡ parse.behind_first leaves F n d at scope y.0 x.0 x.1 r2
   unfolding parse.declared
-  step_declared at scope inside ts r1 r2 b x e e2 e3 = rw (e, e2, e3) refl
+  declared_is at scope ts r1 r2 y x e f =
+      ap (λ o. and_then o (λ y. declarator_after leaves F n d y.1 >>= (λ x. parse.behind_first leaves F n d at scope y.0 x.0 x.1))) e
+      ∙ ap (λ o. and_then o (λ x. parse.behind_first leaves F n d at scope y.0 x.0 x.1)) f
+
+  step_declared : (at : Place) (scope : Option Scope) (inside : List ℕ) (ts r1 r2 : List Token) (b : ReadBase) (x : SizedDeclarator) → owner_of d F ts ≡ owner_at d F r1 → inside_behind d F r1 ≡ inside → base_within leaves (with_names d.types inside) F n ts ≡ Ok (b, r1) → declarator leaves F n d r1 ≡ Ok (x, r2)
+      → parse.declared leaves F n d at scope ts ≡ parse.behind_first leaves F n d at scope b x.0 x.1 r2
+  step_declared at scope inside ts r1 r2 b x e i e2 e3 = by (begins d F (owner_at d F r1) r1) refl (name_tie leaves F n d (owner_at d F r1) r1 refl)
+    where
+      base : base_within leaves (with_names d.types (inside_of d (owner_at d F r1))) F n ts ≡ Ok (b, r1)
+      base = ap (λ l. base_within leaves (with_names d.types l) F n ts) (inside_at d F r1 ∙ i) ∙ e2
+
+      by : (o : Outcome FirstName) → begins d F (owner_at d F r1) r1 ≡ o → and_then o (λ z. declarator_after leaves F n d z) ≡ declarator leaves F n d r1 → parse.declared leaves F n d at scope ts ≡ parse.behind_first leaves F n d at scope b x.0 x.1 r2
+      by (Ok z) h g = declared_is at scope ts z.1 r2 (b, z.0) x (begun_is (owner_at d F r1) ts z.1 (b, z.0) e (from_parts leaves F n d (owner_at d F r1) ts r1 z.1 b z.0 base h)) (g ∙ e3)
+      by (Err f) h g = absurd (never_ok f (x, r2) (g ∙ e3))
 
   behind_more : (at : Place) (scope : Option Scope) (b : ReadBase) (x : Declarator) (h : ℕ) (r : List Token) → Follow r → parse.behind_first leaves F n d at scope b x h r ≡ parse.declared_more leaves F n d at scope b (x, h) r
   behind_more at scope b (dec.Function head) h r f = let e = no_brace r f in rw e refl
@@ -361,7 +381,8 @@ module _ (leaves : Leaves) (F n : ℕ) (d : Declared) where
       let p = declarators_c leaves F n d l lower (q ∷ r) s1 (semicolon_follows q r qc) in
       let cut : behind ≡ p.front ++ (p.back ++ (q ∷ r)) = ap (λ m. m ++ (q ∷ r)) p.cut ∙ append_assoc p.front p.back (q ∷ r) in
       step_declared at scope inside (u ++ behind) behind (p.back ++ (q ∷ r)) b (p.first, p.low)
-      (inside_is leaves F n d inside u b behind a short no ∙ inside_declarators leaves F n d l (q ∷ r) s1)
+      (owner_is leaves F n d types u b behind a (omega (arith, short, length-append u behind)) no)
+      (inside_declarators leaves F n d l (q ∷ r) s1)
       (base_within_c leaves types F a n low behind short (no_bracket_ends leaves types F takes u behind no))
       (ap (declarator leaves F n d) cut ∙ declarator_c leaves F n d p.is (omega (arith, p.lower, lower)) (p.back ++ (q ∷ r)) (omega (arith, s1, ap length cut)) p.after)
       ∙ behind_more at scope b p.first p.low (p.back ++ (q ∷ r)) p.after
@@ -390,7 +411,8 @@ module _ (leaves : Leaves) (F n : ℕ) (d : Declared) where
       let b : ReadBase = read_base x h takes in
       let o = block_opens m in
       step_declared at scope inside (u ++ behind) behind (c ++ r) b (dec.Function head, i)
-      (inside_is leaves F n d inside u b behind a short no ∙ inside_function leaves F n d l (c ++ r) s1)
+      (owner_is leaves F n d types u b behind a (omega (arith, short, length-append u behind)) no)
+      (inside_function leaves F n d l (c ++ r) s1)
       (base_within_c leaves types F a n low behind short (no_bracket_ends leaves types F takes u behind no))
       (head_c leaves F n d l lower (c ++ r) s1)
       ∙ step_body at scope b head i (c ++ r) r body j (o.brace r) (nat_lt_is 0 n (omega (arith, o.high, lowest))) (block_within_c leaves (body_types leaves d head.owner) F m n lowest r (rest_short v (c ++ r) F s1))

@@ -35,13 +35,15 @@ use Rattle.al_parse_member.specs.Members.{AdtMembers, enum_body, member, adt_bod
 use Rattle.al_parse_member.proofs.Sound.{Sound, pure_sound, refuse_sound, bind_sound, bind_guard_sound, choose_sound, look_sound, take_sound, expect_if_sound, expect_sound, map_sound, relang_sound, guard_sound, law_sound}
 use Rattle.al_parse_member.proofs.ParameterSound.{other_name_sound, other_name_guard, bases, stars, all_bounds, list_sound}
 use Rattle.al_parse_member.proofs.MemberSound.{enum_sound, member_sound, members_sound, adt_members_sound}
-use Rattle.al_parse_stmt.specs.Ahead.{owner_ahead, inside_of}
-use Rattle.al_parse_stmt.specs.Heads.{SizedDeclarator, new_names_from, declarator}
+use Rattle.al_parse_stmt.specs.Ahead.{owner_ahead, owner_of, inside_of}
+use Rattle.al_parse_stmt.specs.Begun.{Begun, owners, settled, begins, begun_as, begun}
+use Rattle.al_parse_stmt.specs.Heads.{SizedDeclarator, new_names_from, declarator, declarator_after}
 use Rattle.al_parse_stmt.specs.Parse as parse
 use Rattle.al_parse_stmt.specs.Parse.{ReadItem, built}
 use Rattle.al_parse_stmt.proofs.Balanced.{passes}
 use Rattle.al_parse_stmt.proofs.Facts.{never_ok, fact_sound, short_sound, bind_known, start_behind}
-use Rattle.al_parse_stmt.proofs.HeadSound.{same_start, owner_behind, inside_behind, new_names_sound, declarator_sound, more_declarators}
+use Rattle.al_parse_stmt.proofs.HeadSound.{same_start, owner_behind, inside_ahead, inside_behind, inside_by, new_names_sound, declarator_sound, more_declarators}
+use Rattle.al_parse_stmt.proofs.Begins.{begins_owner, tie, parts_of}
 
 module _ (leaves : Leaves) where
   abbrev pub LItem : Declared → Lang ReadItem
@@ -302,20 +304,23 @@ module _ (leaves : Leaves) (F n : ℕ) (d : Declared) where
   bracket_sound f = record { run = λ ts g s b r e. absurd (refused f ts g s b r e) }
 
   -- the names are found past the base type that was read
-  pub inside_is : (inside : List ℕ) (u : List Token) (b : ReadBase) (r : List Token) → LBase leaves (with_names d.types inside) true u b → length (u ++ r) < F → same_kind (kind r) k.LeftBracket ≡ false → inside_of d F (u ++ r) ≡ inside_behind d F r
-  unfolding inside_of owner_ahead inside_behind owner_behind
-  inside_is inside u b r a s f = let e = passes leaves (with_names d.types inside) a F r f s in rw e refl
+  inside_is : (inside : List ℕ) (u : List Token) (b : ReadBase) (r : List Token) → LBase leaves (with_names d.types inside) true u b → length (u ++ r) < F → same_kind (kind r) k.LeftBracket ≡ false → inside_ahead d F (u ++ r) ≡ inside_behind d F r
+  unfolding inside_ahead owner_ahead inside_behind owner_behind
+  inside_is inside u b r a s f = let e = passes leaves (with_names d.types inside) a F r f (omega (arith, s, length-append u r)) in rw e refl
 
   abbrev Placed : Place → List Token → List Token → Type 0
   Placed at s ts = start (s ++ ts) ≡ at
 
   -- what is known behind a base type that was read
   abbrev BehindBase : Place → List Token → List ℕ → List Token → ReadBase → List Token → Type 0
-  BehindBase at s inside u b r = ((Placed at s (u ++ r) × (length (u ++ r) < F)) × (inside_of d F (u ++ r) ≡ inside)) × (base_within leaves (with_names d.types inside) F n (u ++ r) ≡ Ok (b, r))
+  BehindBase at s inside u b r = ((Placed at s (u ++ r) × (length (u ++ r) < F)) × (inside_ahead d F (u ++ r) ≡ inside)) × (base_within leaves (with_names d.types inside) F n (u ++ r) ≡ Ok (b, r))
 
-  declared_sound : (at : Place) (scope : Option Scope) (s : List Token) → IsScope leaves d.types s scope → Sound F (Placed at s) (parse.declared leaves F n d at scope) (λ r y. LItem leaves d (s ++ r) y)
-  unfolding parse.declared
-  declared_sound at scope s word = short_sound (look_sound (inside_of d F) (λ inside. base_within leaves (with_names d.types inside) F n >>= (λ b. declarator leaves F n d >>= (λ x. parse.behind_first leaves F n d at scope b x.0 x.1)))
+  -- a declaration, where these names are types in its base type
+  abbrev among : Place → Option Scope → List ℕ → Parser ReadItem
+  among at scope inside = base_within leaves (with_names d.types inside) F n >>= (λ b. declarator leaves F n d >>= (λ x. parse.behind_first leaves F n d at scope b x.0 x.1))
+
+  among_sound : (at : Place) (scope : Option Scope) (s : List Token) → IsScope leaves d.types s scope → Sound F (Placed at s) (λ ts. among at scope (inside_ahead d F ts) ts) (λ r y. LItem leaves d (s ++ r) y)
+  among_sound at scope s word = short_sound (look_sound (inside_ahead d F) (λ inside. base_within leaves (with_names d.types inside) F n >>= (λ b. declarator leaves F n d >>= (λ x. parse.behind_first leaves F n d at scope b x.0 x.1)))
       (λ inside. bind_known (bases leaves (with_names d.types inside) F n) (λ u b a.
       look_sound (λ r. same_kind (kind r) k.LeftBracket) (λ _. declarator leaves F n d >>= (λ x. parse.behind_first leaves F n d at scope b x.0 x.1)) (λ bracket. by inside u b a bracket))))
     where
@@ -324,6 +329,30 @@ module _ (leaves : Leaves) (F n : ℕ) (d : Declared) where
       by inside u b a false = fact_sound (λ r g. sym (start_behind s u r (base_long leaves (with_names d.types inside) a)) ∙ g.0.0.0.0) (λ p.
           bind_sound (guard_sound (λ r g. sym (inside_is inside u b r a g.0.0.0.1 g.1) ∙ g.0.0.1) (declarator_sound leaves F n d inside)) (λ v x l.
           behind_first_sound at scope s inside u b (record { word = word; is = a; place = p }) v x.0 x.1 l))
+
+  -- what is read in one way is read with the names that are found ahead
+  abbrev rest : Place → Option Scope → Begun → Parser ReadItem
+  rest at scope y = declarator_after leaves F n d y.1 >>= (λ x. parse.behind_first leaves F n d at scope y.0 x.0 x.1)
+
+  read_among : (at : Place) (scope : Option Scope) (ts : List Token) (y : Begun) (l : List Token) → begun_as leaves F n d (owner_of d F ts) ts ≡ Ok (y, l) → among at scope (inside_ahead d F ts) ts ≡ rest at scope y l
+  unfolding owner_of inside_ahead
+  read_among at scope ts y l h =
+      let owner = owner_of d F ts in
+      let p = parts_of leaves F n d owner ts y l h in
+      let first = begins_owner d F owner p.behind y.1 l p.name in
+      let names : inside_ahead d F ts ≡ inside_of d owner = sym (inside_by d (owner_ahead d.types F ts)) in
+      ap (λ i. among at scope i ts) names
+      ∙ ap (λ o. and_then o (λ b. declarator leaves F n d >>= (λ x. parse.behind_first leaves F n d at scope b x.0 x.1))) p.base
+      ∙ ap (λ o. and_then o (λ x. parse.behind_first leaves F n d at scope y.0 x.0 x.1)) (sym (tie leaves F n d owner p.behind first))
+      ∙ ap (λ o. and_then (and_then o (λ q. declarator_after leaves F n d q)) (λ x. parse.behind_first leaves F n d at scope y.0 x.0 x.1)) p.name
+
+  as_among : (at : Place) (scope : Option Scope) (ts : List Token) (o : Outcome Begun) → begun_as leaves F n d (owner_of d F ts) ts ≡ o → (x : ReadItem) (r : List Token) → and_then (settled (λ owner. begun_as leaves F n d owner ts) (owners d.adts) o) (rest at scope) ≡ Ok (x, r) → among at scope (inside_ahead d F ts) ts ≡ Ok (x, r)
+  as_among at scope ts (Ok y) e x r h = read_among at scope ts y.0 y.1 e ∙ h
+  as_among at scope ts (Err f) e x r h = absurd (never_ok _ (x, r) h)
+
+  declared_sound : (at : Place) (scope : Option Scope) (s : List Token) → IsScope leaves d.types s scope → Sound F (Placed at s) (parse.declared leaves F n d at scope) (λ r y. LItem leaves d (s ++ r) y)
+  unfolding parse.declared begun
+  declared_sound at scope s word = record { run = λ ts g short x r e. (among_sound at scope s word).run ts g short x r (as_among at scope ts (begun_as leaves F n d (owner_of d F ts) ts) refl x r e) }
 
   scoped_sound : (word : Scope) {G : List Token → Type 0} → ((t : Token) (ts : List Token) → G (t ∷ ts) → scope_word t.kind ≡ Some word) → Sound F G (parse.scoped leaves F n d word) (LItem leaves d)
   unfolding parse.scoped

@@ -1,4 +1,4 @@
--- The parsers of items are steady, but for the one of declarations where adts have parameters.
+-- The parsers of items are steady.
 use Rattle.std.proofs.Common.{◌≡◌, ℕ, zero, suc, pred, ◌<◌, ◌≤◌, nat_lt, Bool, true, false, if◌then◌else◌, List, [], ◌∷◌, ◌++◌, map, length, Option, Some, None, Ok, Err, refl, sym, ap, ◌∙◌, subst, arith}
 use Rattle.al_base.specs.declared.place.Place.{Place}
 use Rattle.al_lex.specs.declared.kind.TokenKind.{TokenKind}
@@ -25,15 +25,14 @@ use Rattle.al_parse_type.specs.Within.{base_within}
 use Rattle.al_parse_type.proofs.BoundLaw.{down_fits, lt_grows, lt_of, other_local}
 use Rattle.al_parse_block.specs.Parse.{block_within, within, block}
 use Rattle.al_parse_block.proofs.BlockLaw.{block_within_law}
-use Rattle.al_parse_member.proofs.Steady.{Steady, Keeps, IsErr, Past, err_then, pure_steady, bind_steady, choose_steady, look_steady, fewer, anywhere, take_steady, one_steady, expect_steady, law_steady}
-use Rattle.al_parse_member.proofs.Past.{past_more, keeps_past}
+use Rattle.al_parse_member.proofs.Steady.{Steady, Keeps, IsErr, err_then, pure_steady, bind_steady, choose_steady, look_steady, fewer, anywhere, take_steady, one_steady, expect_steady, law_steady}
 use Rattle.al_parse_member.proofs.ParameterSteady.{above, ask_steady, base_steady, stars_steady, bounds_steady, other_name_steady, list_steady}
 use Rattle.al_parse_member.proofs.MemberSteady.{enum_steady, within_steady, body_steady}
-use Rattle.al_parse_stmt.specs.Heads.{SizedDeclarator, declarator}
-use Rattle.al_parse_stmt.specs.Ahead.{inside_of, owner_ahead, parameters_by}
+use Rattle.al_parse_stmt.specs.Heads.{SizedDeclarator}
 use Rattle.al_parse_stmt.specs.Parse as parse
 use Rattle.al_parse_stmt.specs.Parse.{ReadItem}
-use Rattle.al_parse_stmt.proofs.HeadSteady.{new_names_steady, declarator_steady, declarators_steady}
+use Rattle.al_parse_stmt.proofs.HeadSteady.{new_names_steady, after_steady, declarators_steady}
+use Rattle.al_parse_stmt.proofs.BegunSteady.{begun_steady}
 
 -- a semicolon or none
 semicolon_steady : {K : ℕ} → Steady K Any parse.semicolon parse.semicolon
@@ -53,17 +52,6 @@ room_steady {A} {K} {G} {p = p} {q = q} false b2 up ends l = record { run = λ t
         by true = ends
         by false = tt
     on (t ∷ ts) = tt
-
--- another way to write two parsers
-like : {A : Type 0} (q q2 : Parser A) → ((ts : List Token) → q ts ≡ q2 ts) → (ts : List Token) (o : Outcome A) → Keeps q2 ts o → Keeps q ts o
-like q q2 e ts (Ok x) v = record { used = v.used; cut = v.cut; again = λ r' h. e (v.used ++ r') ∙ v.again r' h }
-like q q2 e ts (Err NoMemory) v = tt
-like q q2 e ts (Err (Stuck zero)) v = subst IsErr (sym (e ts)) v
-like q q2 e ts (Err (Stuck (suc n))) v = record { used = v.used; token = v.token; rest = v.rest; cut = v.cut; count = v.count; none = λ more. subst IsErr (sym (e (v.used ++ v.token ∷ more))) (v.none more) }
-like q q2 e ts (Err (Deep n)) v = tt
-
-like_steady : {A : Type 0} {K : ℕ} {G : List Token → Type 0} (p p2 q q2 : Parser A) → ((ts : List Token) → p ts ≡ p2 ts) → ((ts : List Token) → q ts ≡ q2 ts) → Steady K G p2 q2 → Steady K G p q
-like_steady p p2 q q2 a b l = record { run = λ ts g s. subst (Keeps q ts) (sym (a ts)) (like q q2 b ts (p2 ts) (l.run ts g s)) }
 
 module _ (leaves : Leaves) (F n F2 n2 : ℕ) (turns : F ≤ F2) (low : n ≤ n2) where
   fits : nat_lt 0 n ≡ true → nat_lt 0 n2 ≡ true
@@ -160,65 +148,23 @@ module _ (leaves : Leaves) (F n F2 n2 : ℕ) (turns : F ≤ F2) (low : n ≤ n2)
     behind_steady f at scope b (dec.Function hd) h = ask_steady k.LeftBrace _ _ _ _ (room_steady (nat_lt 0 n) (nat_lt 0 n2) fits (err_then (block_within leaves (body_types leaves d hd.owner) F2 n2 []) _ (no_block (body_types leaves d hd.owner) n2)) (λ e. with_body_steady f e at scope b h hd)) (more_steady f at scope b (dec.Function hd, h))
     behind_steady f at scope b (dec.Global x y) h = more_steady f at scope b (dec.Global x y, h)
 
-    -- a declaration, where these names are types in its base type
-    declared_among : ℕ → ℕ → Place → Option Scope → List ℕ → Parser ReadItem
-    declared_among G m at scope inside = base_within leaves (with_names d.types inside) G m >>= (λ b. declarator leaves G m d >>= (λ x. parse.behind_first leaves G m d at scope b x.0 x.1))
+    declared_steady : {K : ℕ} → K ≤ F → (at : Place) (scope : Option Scope) → Steady K Any (parse.declared leaves F n d at scope) (parse.declared leaves F2 n2 d at scope)
+    unfolding parse.declared
+    declared_steady f at scope = bind_steady (begun_steady leaves F n F2 n2 turns low d f) (λ y. bind_steady (after_steady leaves d F n F2 n2 turns low f y.1) (λ x. behind_steady f at scope y.0 x.0 x.1))
 
-    among_steady : {K : ℕ} → K ≤ F → (at : Place) (scope : Option Scope) (inside : List ℕ) → Steady K Any (declared_among F n at scope inside) (declared_among F2 n2 at scope inside)
-    unfolding declared_among
-    among_steady f at scope inside = bind_steady (base_steady leaves (with_names d.types inside) F n F2 n2 turns low f) (λ b. bind_steady (declarator_steady leaves d F n F2 n2 turns low f) (λ x. behind_steady f at scope b x.0 x.1))
-
-    none_inside : (G : ℕ) (ts : List Token) → d.adts ≡ [] → inside_of d G ts ≡ []
-    unfolding inside_of
-    none_inside G ts e = by (owner_ahead d.types G ts)
-      where
-        by : (o : Outcome ℕ) → parameters_by d o ≡ []
-        by (Ok x) = ap (λ l. parameters_of l x.0) e
-        by (Err x) = refl
-
-    is_among : (G m : ℕ) (at : Place) (scope : Option Scope) (ts : List Token) → parse.declared leaves G m d at scope ts ≡ declared_among G m at scope (inside_of d G ts) ts
-    unfolding parse.declared declared_among
-    is_among G m at scope ts = refl
-
-    declared_steady : {K : ℕ} → K ≤ F → d.adts ≡ [] → (at : Place) (scope : Option Scope) → Steady K Any (parse.declared leaves F n d at scope) (parse.declared leaves F2 n2 d at scope)
-    declared_steady f e at scope = like_steady (parse.declared leaves F n d at scope) (declared_among F n at scope []) (parse.declared leaves F2 n2 d at scope) (declared_among F2 n2 at scope [])
-        (λ ts. is_among F n at scope ts ∙ ap (λ l. declared_among F n at scope l ts) (none_inside F ts e)) (λ ts. is_among F2 n2 at scope ts ∙ ap (λ l. declared_among F2 n2 at scope l ts) (none_inside F2 ts e)) (among_steady f at scope [])
-
-    declared_past : (at : Place) (scope : Option Scope) (ts : List Token) → length ts < F → Past (length ts) (parse.declared leaves F n d at scope ts)
-    declared_past at scope ts s = subst (Past (length ts)) (sym (is_among F n at scope ts)) (keeps_past (declared_among F2 n2 at scope (inside_of d F ts)) ts (declared_among F n at scope (inside_of d F ts) ts) ((among_steady {K = F} (omega arith) at scope (inside_of d F ts)).run ts tt s))
-
-    by_scope_steady : {K : ℕ} → K ≤ F → d.adts ≡ [] → (o : Option Scope) → Steady K Any (parse.scoped_by leaves F n d o) (parse.scoped_by leaves F2 n2 d o)
+    by_scope_steady : {K : ℕ} → K ≤ F → (o : Option Scope) → Steady K Any (parse.scoped_by leaves F n d o) (parse.scoped_by leaves F2 n2 d o)
     unfolding parse.scoped parse.unscoped
-    by_scope_steady {K} f e (Some word) = one_steady _ _ (λ w. declared_steady (down_fits K F f) e w.place (Some word))
-    by_scope_steady f e None = look_steady start start_local (λ at. parse.declared leaves F n d at None) (λ at. parse.declared leaves F2 n2 d at None) (λ at. anywhere (declared_steady f e at None))
+    by_scope_steady {K} f (Some word) = one_steady _ _ (λ w. declared_steady (down_fits K F f) w.place (Some word))
+    by_scope_steady f None = look_steady start start_local (λ at. parse.declared leaves F n d at None) (λ at. parse.declared leaves F2 n2 d at None) (λ at. anywhere (declared_steady f at None))
 
-    by_steady : {K : ℕ} → K ≤ F → d.adts ≡ [] → (kd : TokenKind) → Steady K Any (parse.item_by leaves F n d kd) (parse.item_by leaves F2 n2 d kd)
-    by_steady f e k.Typedef = typedef_steady f
-    by_steady f e k.Enum = enumerated_steady f
-    by_steady f e k.Aggr = aggregated_steady f ag.Aggr
-    by_steady f e k.Union = aggregated_steady f ag.Union
-    by_steady f e k.Adt = aggregated_steady f ag.Adt
-    by_steady f e kd = by_scope_steady f e (scope_word kd)
+    by_steady : {K : ℕ} → K ≤ F → (kd : TokenKind) → Steady K Any (parse.item_by leaves F n d kd) (parse.item_by leaves F2 n2 d kd)
+    by_steady f k.Typedef = typedef_steady f
+    by_steady f k.Enum = enumerated_steady f
+    by_steady f k.Aggr = aggregated_steady f ag.Aggr
+    by_steady f k.Union = aggregated_steady f ag.Union
+    by_steady f k.Adt = aggregated_steady f ag.Adt
+    by_steady f kd = by_scope_steady f (scope_word kd)
 
-    pub item_steady : {K : ℕ} → K ≤ F → d.adts ≡ [] → Steady K Any (parse.one_item leaves F n d) (parse.one_item leaves F2 n2 d)
+    pub item_steady : {K : ℕ} → K ≤ F → Steady K Any (parse.one_item leaves F n d) (parse.one_item leaves F2 n2 d)
     unfolding parse.one_item
-    item_steady f e = look_steady kind kind_local (parse.item_by leaves F n d) (parse.item_by leaves F2 n2 d) (λ next. anywhere (by_steady f e next))
-
-    -- where adts have parameters too, no token is given back
-    scope_past : (o : Option Scope) (ts : List Token) → length ts < F → Past (length ts) (parse.scoped_by leaves F n d o ts)
-    unfolding parse.scoped parse.unscoped take_if
-    scope_past (Some word) [] s = omega arith
-    scope_past (Some word) (w ∷ ts) s = past_more (length ts) (length (w ∷ ts)) (omega arith) (parse.declared leaves F n d w.place (Some word) ts) (declared_past w.place (Some word) ts (omega (arith, s)))
-    scope_past None ts s = declared_past (start ts) None ts s
-
-    by_past : (kd : TokenKind) (ts : List Token) → length ts < F → Past (length ts) (parse.item_by leaves F n d kd ts)
-    by_past k.Typedef ts s = keeps_past (parse.typedef leaves F2 n2 d) ts (parse.typedef leaves F n d ts) ((typedef_steady {K = F} (omega arith)).run ts tt s)
-    by_past k.Enum ts s = keeps_past (parse.enumerated leaves F2 n2 d) ts (parse.enumerated leaves F n d ts) ((enumerated_steady {K = F} (omega arith)).run ts tt s)
-    by_past k.Aggr ts s = keeps_past (parse.aggregated leaves F2 n2 d ag.Aggr) ts (parse.aggregated leaves F n d ag.Aggr ts) ((aggregated_steady {K = F} (omega arith) ag.Aggr).run ts tt s)
-    by_past k.Union ts s = keeps_past (parse.aggregated leaves F2 n2 d ag.Union) ts (parse.aggregated leaves F n d ag.Union ts) ((aggregated_steady {K = F} (omega arith) ag.Union).run ts tt s)
-    by_past k.Adt ts s = keeps_past (parse.aggregated leaves F2 n2 d ag.Adt) ts (parse.aggregated leaves F n d ag.Adt ts) ((aggregated_steady {K = F} (omega arith) ag.Adt).run ts tt s)
-    by_past kd ts s = scope_past (scope_word kd) ts s
-
-    pub item_past : (ts : List Token) → length ts < F → Past (length ts) (parse.one_item leaves F n d ts)
-    unfolding parse.one_item
-    item_past ts s = by_past (kind ts) ts s
+    item_steady f = look_steady kind kind_local (parse.item_by leaves F n d) (parse.item_by leaves F2 n2 d) (λ next. anywhere (by_steady f next))

@@ -1,6 +1,9 @@
 -- The names of types that were known before others were added stand in front of these.
-use Rattle.std.proofs.Common.{◌≡◌, ℕ, Bool, true, false, if◌then◌else◌, List, [], ◌∷◌, ◌++◌, length, take, refl, sym, ap, ◌∙◌, append_assoc, append-nil}
+use Rattle.std.proofs.Common.{◌≡◌, ℕ, Bool, true, false, if◌then◌else◌, List, [], ◌∷◌, ◌++◌, length, take, Result, Ok, Err, refl, sym, ap, ◌∙◌, append_assoc, append-nil}
 use Rattle.al_tree.specs.Types.{known, with_names}
+use Rattle.al_tree.specs.Items.{Declared}
+use Rattle.al_tree.specs.declared.cursor.ParseError.{ParseError}
+use Rattle.al_parse_stmt.specs.Known.{Restores}
 
 take_front : (xs ys : List ℕ) → take (length xs) (xs ++ ys) ≡ xs
 take_front [] ys = refl
@@ -24,3 +27,8 @@ kept types names = let q = longer types names in ap (take (length types)) q.is �
 -- names that are added for a while and then cut off
 pub kept_names : (types names all new : List ℕ) (count : ℕ) → new ≡ take count all → count ≡ length types → all ≡ with_names types names → new ≡ types
 kept_names types names all new count e c h = e ∙ ap (λ n. take n all) c ∙ ap (λ l. take (length types) l) h ∙ kept types names
+
+-- names that are always cut off
+pub restores : {A : Type 0} {old new : Declared} → new ≡ old → (r : Result A ParseError) → Restores r old new
+restores e (Ok x) = e
+restores e (Err x) = λ some. e

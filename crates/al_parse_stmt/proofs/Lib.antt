@@ -4,10 +4,13 @@ pub mod LastFirst
 pub mod Balanced
 pub mod Facts
 pub mod HeadSound
+pub mod Begins
 pub mod ItemSound
 pub mod HeadComplete
 pub mod ItemComplete
 pub mod TextIs
 pub mod HeadSteady
+pub mod Furthest
+pub mod BegunSteady
 pub mod ItemSteady
 pub mod TextSteady

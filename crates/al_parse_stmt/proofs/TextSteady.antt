@@ -1,12 +1,10 @@
 -- The token that is unexpected in a text.
 use Rattle.std.proofs.Common.{◌≡◌, ◌≢◌, ℕ, zero, suc, pred, ◌+◌, ◌-◌, ◌<◌, ◌≤◌, ◌==◌, max, Bool, true, false, if◌then◌else◌, List, [], ◌∷◌, ◌++◌, length, slice_get, Some, Ok, Err, ◌⊎◌, inl, inr, refl, sym, ap, ap₂, ◌∙◌, subst, arith, append_assoc, length-append}
-use Rattle.al_lex.specs.declared.kind.TokenKind.TheVariants as k
 use Rattle.al_lex.specs.declared.token.Token.{Token}
 use Rattle.al_lex.specs.TokenList.{TokenList}
 use Rattle.al_tree.specs.Types.{Leaves}
 use Rattle.al_tree.specs.Leaves.{leaves_of}
-use Rattle.al_tree.specs.Items.{Declared, nothing_declared, IsItem}
-use Rattle.al_tree.specs.Items as items
+use Rattle.al_tree.specs.Items.{Declared, nothing_declared}
 use Rattle.al_tree.specs.Parts.{TokensFrom, place_of, count, fault_at, stop_of}
 use Rattle.al_tree.specs.Reading.{Outcome, Parser, and_then}
 use Rattle.al_tree.specs.Tree.{IsTreeOf}
@@ -19,48 +17,21 @@ use Rattle.al_tree.specs.declared.item.Item.{Item}
 use Rattle.al_tree.specs.declared.item.Tree.{Tree}
 use Rattle.al_tree.proofs.Law.{head, some_pred}
 use Rattle.al_parse_member.proofs.Steady.{Keeps, same_head, IsErr, Past, behind, err_then}
-use Rattle.al_parse_member.proofs.Past.{past_more}
-use Rattle.al_parse_stmt.specs.Calls.{NoParameters, IsNamed}
+use Rattle.al_parse_member.proofs.Past.{past_more, keeps_past}
+use Rattle.al_parse_stmt.specs.Calls.{IsNamed}
 use Rattle.al_parse_stmt.specs.Parse as parse
 use Rattle.al_parse_stmt.specs.Parse.{ReadItem}
 use Rattle.al_parse_stmt.proofs.ItemSound.{one_item_sound}
 use Rattle.al_parse_stmt.proofs.ItemComplete.{item_long, text_c}
-use Rattle.al_parse_stmt.proofs.ItemSteady.{item_steady, item_past}
-
--- the head of an adt with parameters
-record Parameters (u : List Token) : Type 0 where
-  word : Token
-  name : Token
-  bracket : Token
-  rest : List Token
-  cut : u ≡ word ∷ name ∷ bracket ∷ rest
-  is_adt : word.kind ≡ k.Adt
-  is_name : name.kind ≡ k.Name
-  is_bracket : bracket.kind ≡ k.LeftBracket
-
--- parameters are known behind such an item alone
-grows : {leaves : Leaves} {d : Declared} {u : List Token} {x : Item} {after : Declared} {h : ℕ} → IsItem leaves d u x after h → d.adts ≡ [] → (after.adts ≡ []) ⊎ Parameters u
-grows (items.parametrised w n l r o c wc nc lc ns rc oc ms ec q) e = inr (record { word = w; name = n; bracket = l; rest = _; cut = refl; is_adt = wc; is_name = nc; is_bracket = lc })
-grows (items.typedef w t wc d y tc) e = inl e
-grows (items.function_type w n o c t wc d a nc oc l ec tc) e = inl e
-grows (items.forward w n t wc nc tc) e = inl e
-grows (items.plain_members w n o c wc nc oc l ec q) e = inl e
-grows (items.adt w n o c wc nc oc l ec q) e = inl e
-grows (items.enum w wc b q) e = inl e
-grows (items.named_enum w n wc nc b q) e = inl e
-grows (items.declare t s d l tc) e = inl e
-grows (items.function s d a b) e = inl e
-
-never_among : (u v w : List Token) (t : Token) → Parameters u → w ≡ u ++ v → NoParameters (w ++ t ∷ []) → ⊥
-never_among u v w t p e none = none [] (p.rest ++ (v ++ t ∷ [])) p.word p.name p.bracket
-    (ap (λ l. l ++ t ∷ []) e ∙ append_assoc u v (t ∷ []) ∙ ap (λ l. l ++ (v ++ t ∷ [])) p.cut) p.is_adt p.is_name p.is_bracket
+use Rattle.al_parse_stmt.proofs.Facts.{At, token_at}
+use Rattle.al_parse_stmt.proofs.ItemSteady.{item_steady}
 
 -- what the outcome on some tokens says of a parser with as many turns and levels
 abbrev Refuses : {A : Type 0} → Parser A → List Token → Outcome A → Type 0
 Refuses q ts (Ok x) = Unit {0}
 Refuses q ts (Err NoMemory) = Unit {0}
-Refuses q ts (Err (Stuck zero)) = NoParameters ts → IsErr (q ts)
-Refuses q ts (Err (Stuck (suc m))) = (used : List Token) (token : Token) (rest : List Token) → ts ≡ used ++ token ∷ rest → length rest ≡ m → NoParameters (used ++ token ∷ []) → (more : List Token) → IsErr (q (used ++ token ∷ more))
+Refuses q ts (Err (Stuck zero)) = IsErr (q ts)
+Refuses q ts (Err (Stuck (suc m))) = (used : List Token) (token : Token) (rest : List Token) → ts ≡ used ++ token ∷ rest → length rest ≡ m → (more : List Token) → IsErr (q (used ++ token ∷ more))
 Refuses q ts (Err (Deep m)) = Unit {0}
 
 -- a list is cut before so many tokens in one way
@@ -73,10 +44,6 @@ one_cut (a ∷ u) (b ∷ v) s t x y e c =
     let r : u ++ s ∷ x ≡ v ++ t ∷ y = cc in
     let q = one_cut u v s t x y r c in
     (ap (λ z. z ∷ u) h ∙ ap (λ l. b ∷ l) q.0, q.1)
-
--- what begins among the last of these tokens begins among them
-among : (u w : List Token) → NoParameters (u ++ w) → NoParameters w
-among u w none a v x n l e = none (u ++ a) v x n l (ap (λ z. u ++ z) e ∙ sym (append_assoc u a (x ∷ n ∷ l ∷ v)))
 
 not_end : (u : List Token) (t : Token) (more : List Token) → parse.at_end (u ++ t ∷ more) ≡ false
 not_end [] t more = refl
@@ -98,56 +65,42 @@ module _ (leaves : Leaves) (F n F2 n2 : ℕ) (turns : F ≤ F2) (low : n ≤ n2)
   unfolding parse.items_from
   items_past zero f d xs h ts s = absurd (omega (arith, s))
   items_past (suc m) f d xs h [] s = omega arith
-  items_past (suc m) f d xs h (t ∷ ts) s = past_behind m (λ d2 xs2 h2 ts2 s2. items_past m (omega (arith, f)) d2 xs2 h2 ts2 s2) (omega (arith, f)) d xs h (t ∷ ts) s (parse.one_item leaves F n d (t ∷ ts)) refl (item_past leaves F n F2 n2 turns low d (t ∷ ts) (omega (arith, s, f)))
+  items_past (suc m) f d xs h (t ∷ ts) s = past_behind m (λ d2 xs2 h2 ts2 s2. items_past m (omega (arith, f)) d2 xs2 h2 ts2 s2) (omega (arith, f)) d xs h (t ∷ ts) s (parse.one_item leaves F n d (t ∷ ts)) refl (keeps_past (parse.one_item leaves F2 n2 d) (t ∷ ts) (parse.one_item leaves F n d (t ∷ ts)) ((item_steady leaves F n F2 n2 turns low d {K = F} (omega arith)).run (t ∷ ts) tt (omega (arith, s, f))))
 
   -- the items behind one that was read
-  refuses_more : (m2 : ℕ) (d : Declared) (xs : List Item) (h : ℕ) (ts : List Token) → d.adts ≡ [] → (x : ReadItem) (r : List Token) → Keeps (parse.one_item leaves F2 n2 d) ts (Ok (x, r)) → (u : List Token) → ts ≡ u ++ r → IsItem leaves d u x.item x.after x.height
-      → (o : Outcome (List Item × ℕ)) → Past (length r) o → (x.after.adts ≡ [] → Refuses (parse.items_from leaves F2 n2 m2 x.after (xs ++ x.item ∷ []) (max h x.height)) r o)
+  refuses_more : (m2 : ℕ) (d : Declared) (xs : List Item) (h : ℕ) (ts : List Token) (x : ReadItem) (r : List Token) → Keeps (parse.one_item leaves F2 n2 d) ts (Ok (x, r))
+      → (o : Outcome (List Item × ℕ)) → Past (length r) o → Refuses (parse.items_from leaves F2 n2 m2 x.after (xs ++ x.item ∷ []) (max h x.height)) r o
       → Refuses (λ us. and_then (parse.one_item leaves F2 n2 d us) (λ x. parse.items_from leaves F2 n2 m2 x.after (xs ++ x.item ∷ []) (max h x.height))) ts o
-  refuses_more m2 d xs h ts none x r v u c is (Ok y) p k = tt
-  refuses_more m2 d xs h ts none x r v u c is (Err NoMemory) p k = tt
-  refuses_more m2 d xs h ts none x r v u c is (Err (Stuck zero)) p k = λ free. by free (grows is none)
-    where
-      f2 : ReadItem → Parser (List Item × ℕ)
-      f2 x = parse.items_from leaves F2 n2 m2 x.after (xs ++ x.item ∷ []) (max h x.height)
+  refuses_more m2 d xs h ts x r v (Ok y) p k = tt
+  refuses_more m2 d xs h ts x r v (Err NoMemory) p k = tt
+  refuses_more m2 d xs h ts x r v (Err (Stuck zero)) p k =
+      let f2 : ReadItem → Parser (List Item × ℕ) = λ x. parse.items_from leaves F2 n2 m2 x.after (xs ++ x.item ∷ []) (max h x.height) in
+      subst IsErr (sym (ap (λ o. and_then o f2) (ap (parse.one_item leaves F2 n2 d) v.cut ∙ v.again r refl))) k
+  refuses_more m2 d xs h ts x r v (Err (Stuck (suc i))) p k = λ used token rest cut count more.
+      let f2 : ReadItem → Parser (List Item × ℕ) = λ x. parse.items_from leaves F2 n2 m2 x.after (xs ++ x.item ∷ []) (max h x.height) in
+      let b = behind v.used r used (token ∷ rest) (sym v.cut ∙ cut) (omega (arith, p, count)) in
+      let all : used ++ token ∷ more ≡ v.used ++ (b.more ++ token ∷ more) = ap (λ q. q ++ token ∷ more) b.is ∙ append_assoc v.used b.more (token ∷ more) in
+      let read : parse.one_item leaves F2 n2 d (used ++ token ∷ more) ≡ Ok (x, b.more ++ token ∷ more) =
+      ap (parse.one_item leaves F2 n2 d) all ∙ v.again (b.more ++ token ∷ more) (same_head b.more (token ∷ rest) (token ∷ more) refl ∙ ap head (sym b.cut)) in
+      subst IsErr (sym (ap (λ o. and_then o f2) read)) (k b.more token rest b.cut count more)
+  refuses_more m2 d xs h ts x r v (Err (Deep i)) p k = tt
 
-      by : NoParameters ts → (x.after.adts ≡ []) ⊎ Parameters u → IsErr (and_then (parse.one_item leaves F2 n2 d ts) f2)
-      by free (inl z) = subst IsErr (sym (ap (λ o. and_then o f2) (ap (parse.one_item leaves F2 n2 d) v.cut ∙ v.again r refl))) (k z (among v.used r (subst NoParameters v.cut free)))
-      by free (inr q) = absurd (free [] (q.rest ++ r) q.word q.name q.bracket (c ∙ ap (λ l. l ++ r) q.cut) q.is_adt q.is_name q.is_bracket)
-  refuses_more m2 d xs h ts none x r v u c is (Err (Stuck (suc i))) p k = λ used token rest cut count free more. by used token rest cut count free more (grows is none)
-    where
-      f2 : ReadItem → Parser (List Item × ℕ)
-      f2 x = parse.items_from leaves F2 n2 m2 x.after (xs ++ x.item ∷ []) (max h x.height)
-
-      by : (used : List Token) (token : Token) (rest : List Token) → ts ≡ used ++ token ∷ rest → length rest ≡ i → NoParameters (used ++ token ∷ []) → (more : List Token) → (x.after.adts ≡ []) ⊎ Parameters u → IsErr (and_then (parse.one_item leaves F2 n2 d (used ++ token ∷ more)) f2)
-      by used token rest cut count free more (inl z) =
-          let b = behind v.used r used (token ∷ rest) (sym v.cut ∙ cut) (omega (arith, p, count)) in
-          let all : (l : List Token) → used ++ l ≡ v.used ++ (b.more ++ l) = λ l. ap (λ q. q ++ l) b.is ∙ append_assoc v.used b.more l in
-          let read : parse.one_item leaves F2 n2 d (used ++ token ∷ more) ≡ Ok (x, b.more ++ token ∷ more) =
-          ap (parse.one_item leaves F2 n2 d) (all (token ∷ more)) ∙ v.again (b.more ++ token ∷ more) (same_head b.more (token ∷ rest) (token ∷ more) refl ∙ ap head (sym b.cut)) in
-          subst IsErr (sym (ap (λ o. and_then o f2) read)) (k z b.more token rest b.cut count (among v.used (b.more ++ token ∷ []) (subst NoParameters (all (token ∷ [])) free)) more)
-      by used token rest cut count free more (inr q) =
-          let b = behind u r used (token ∷ rest) (sym c ∙ cut) (omega (arith, p, count)) in
-          absurd (never_among u b.more used token q b.is free)
-  refuses_more m2 d xs h ts none x r v u c is (Err (Deep i)) p k = tt
-
-  refuses_behind : (m m2 : ℕ) → ((d : Declared) → d.adts ≡ [] → (xs : List Item) (h : ℕ) (ts : List Token) → length ts < m → Refuses (parse.items_from leaves F2 n2 m2 d xs h) ts (parse.items_from leaves F n m d xs h ts)) → m < F
-      → (d : Declared) → d.adts ≡ [] → (xs : List Item) (h : ℕ) (ts : List Token) → length ts < suc m → (o : Outcome ReadItem) → parse.one_item leaves F n d ts ≡ o → Keeps (parse.one_item leaves F2 n2 d) ts o
+  refuses_behind : (m m2 : ℕ) → ((d : Declared) (xs : List Item) (h : ℕ) (ts : List Token) → length ts < m → Refuses (parse.items_from leaves F2 n2 m2 d xs h) ts (parse.items_from leaves F n m d xs h ts)) → m < F
+      → (d : Declared) (xs : List Item) (h : ℕ) (ts : List Token) → length ts < suc m → (o : Outcome ReadItem) → parse.one_item leaves F n d ts ≡ o → Keeps (parse.one_item leaves F2 n2 d) ts o
       → Refuses (λ us. and_then (parse.one_item leaves F2 n2 d us) (λ x. parse.items_from leaves F2 n2 m2 x.after (xs ++ x.item ∷ []) (max h x.height))) ts (and_then o (λ x. parse.items_from leaves F n m x.after (xs ++ x.item ∷ []) (max h x.height)))
-  refuses_behind m m2 go f d none xs h ts s (Ok x) e v =
-      let w = (one_item_sound leaves F n d).run ts tt (omega (arith, s, f)) x.0 x.1 e in
+  refuses_behind m m2 go f d xs h ts s (Ok x) e v =
       let less = item_some d ts (omega (arith, s, f)) x.0 x.1 e in
-      refuses_more m2 d xs h ts none x.0 x.1 v w.used w.cut w.is (parse.items_from leaves F n m x.0.after (xs ++ x.0.item ∷ []) (max h x.0.height) x.1)
+      refuses_more m2 d xs h ts x.0 x.1 v (parse.items_from leaves F n m x.0.after (xs ++ x.0.item ∷ []) (max h x.0.height) x.1)
       (items_past m (omega (arith, f)) x.0.after (xs ++ x.0.item ∷ []) (max h x.0.height) x.1 (omega (arith, s, less)))
-      (λ z. go x.0.after z (xs ++ x.0.item ∷ []) (max h x.0.height) x.1 (omega (arith, s, less)))
-  refuses_behind m m2 go f d none xs h ts s (Err NoMemory) e v = tt
-  refuses_behind m m2 go f d none xs h ts s (Err (Stuck zero)) e v = λ free. err_then (parse.one_item leaves F2 n2 d ts) (λ x. parse.items_from leaves F2 n2 m2 x.after (xs ++ x.item ∷ []) (max h x.height)) v
-  refuses_behind m m2 go f d none xs h ts s (Err (Stuck (suc i))) e v = λ used token rest cut count free more.
+      (go x.0.after (xs ++ x.0.item ∷ []) (max h x.0.height) x.1 (omega (arith, s, less)))
+  refuses_behind m m2 go f d xs h ts s (Err NoMemory) e v = tt
+  refuses_behind m m2 go f d xs h ts s (Err (Stuck zero)) e v = err_then (parse.one_item leaves F2 n2 d ts) (λ x. parse.items_from leaves F2 n2 m2 x.after (xs ++ x.item ∷ []) (max h x.height)) v
+  refuses_behind m m2 go f d xs h ts s (Err (Stuck (suc i))) e v = λ used token rest cut count more.
       let same = one_cut v.used used v.token token v.rest rest (sym v.cut ∙ cut) (v.count ∙ sym count) in
       let f2 : ReadItem → Parser (List Item × ℕ) = λ x. parse.items_from leaves F2 n2 m2 x.after (xs ++ x.item ∷ []) (max h x.height) in
       let all : v.used ++ v.token ∷ more ≡ used ++ token ∷ more = ap₂ (λ l t. l ++ t ∷ more) same.0 same.1 in
       subst (λ l. IsErr (and_then (parse.one_item leaves F2 n2 d l) f2)) all (err_then (parse.one_item leaves F2 n2 d (v.used ++ v.token ∷ more)) f2 (v.none more))
-  refuses_behind m m2 go f d none xs h ts s (Err (Deep i)) e v = tt
+  refuses_behind m m2 go f d xs h ts s (Err (Deep i)) e v = tt
 
   unrolled : (m2 : ℕ) (d : Declared) (xs : List Item) (h : ℕ) (us : List Token) → parse.at_end us ≡ false → parse.items_from leaves F2 n2 (suc m2) d xs h us ≡ and_then (parse.one_item leaves F2 n2 d us) (λ x. parse.items_from leaves F2 n2 m2 x.after (xs ++ x.item ∷ []) (max h x.height))
   unfolding parse.items_from
@@ -156,36 +109,23 @@ module _ (leaves : Leaves) (F n F2 n2 : ℕ) (turns : F ≤ F2) (low : n ≤ n2)
   refuses_like : {A : Type 0} (q q2 : Parser A) → ((u : List Token) (t : Token) (more : List Token) → q2 (u ++ t ∷ more) ≡ q (u ++ t ∷ more)) → (ts : List Token) → q2 ts ≡ q ts → (o : Outcome A) → Refuses q ts o → Refuses q2 ts o
   refuses_like q q2 e ts a (Ok x) v = tt
   refuses_like q q2 e ts a (Err NoMemory) v = tt
-  refuses_like q q2 e ts a (Err (Stuck zero)) v = λ free. subst IsErr (sym a) (v free)
-  refuses_like q q2 e ts a (Err (Stuck (suc i))) v = λ used token rest cut count free more. subst IsErr (sym (e used token more)) (v used token rest cut count free more)
+  refuses_like q q2 e ts a (Err (Stuck zero)) v = subst IsErr (sym a) v
+  refuses_like q q2 e ts a (Err (Stuck (suc i))) v = λ used token rest cut count more. subst IsErr (sym (e used token more)) (v used token rest cut count more)
   refuses_like q q2 e ts a (Err (Deep i)) v = tt
 
-  pub items_refuse : (m m2 : ℕ) → m ≤ m2 → m ≤ F → (d : Declared) → d.adts ≡ [] → (xs : List Item) (h : ℕ) (ts : List Token) → length ts < m → Refuses (parse.items_from leaves F2 n2 m2 d xs h) ts (parse.items_from leaves F n m d xs h ts)
+  pub items_refuse : (m m2 : ℕ) → m ≤ m2 → m ≤ F → (d : Declared) (xs : List Item) (h : ℕ) (ts : List Token) → length ts < m → Refuses (parse.items_from leaves F2 n2 m2 d xs h) ts (parse.items_from leaves F n m d xs h ts)
   unfolding parse.items_from
-  items_refuse zero m2 l f d e xs h ts s = absurd (omega (arith, s))
-  items_refuse (suc m) zero l f d e xs h ts s = absurd (omega (arith, l))
-  items_refuse (suc m) (suc m2) l f d e xs h [] s = tt
-  items_refuse (suc m) (suc m2) l f d e xs h (t ∷ ts) s =
+  items_refuse zero m2 l f d xs h ts s = absurd (omega (arith, s))
+  items_refuse (suc m) zero l f d xs h ts s = absurd (omega (arith, l))
+  items_refuse (suc m) (suc m2) l f d xs h [] s = tt
+  items_refuse (suc m) (suc m2) l f d xs h (t ∷ ts) s =
       let f1 : ReadItem → Parser (List Item × ℕ) = λ x. parse.items_from leaves F n m x.after (xs ++ x.item ∷ []) (max h x.height) in
       let f2 : ReadItem → Parser (List Item × ℕ) = λ x. parse.items_from leaves F2 n2 m2 x.after (xs ++ x.item ∷ []) (max h x.height) in
       refuses_like (λ us. and_then (parse.one_item leaves F2 n2 d us) f2) (parse.items_from leaves F2 n2 (suc m2) d xs h) (λ u q more. unrolled m2 d xs h (u ++ q ∷ more) (not_end u q more)) (t ∷ ts) (unrolled m2 d xs h (t ∷ ts) refl) (and_then (parse.one_item leaves F n d (t ∷ ts)) f1)
-      (refuses_behind m m2 (λ d2 e2 xs2 h2 ts2 s2. items_refuse m m2 (omega (arith, l)) (omega (arith, f)) d2 e2 xs2 h2 ts2 s2) (omega (arith, f)) d e xs h (t ∷ ts) s (parse.one_item leaves F n d (t ∷ ts)) refl
-      ((item_steady leaves F n F2 n2 turns low d {K = F} (omega arith) e).run (t ∷ ts) tt (omega (arith, s, f))))
+      (refuses_behind m m2 (λ d2 xs2 h2 ts2 s2. items_refuse m m2 (omega (arith, l)) (omega (arith, f)) d2 xs2 h2 ts2 s2) (omega (arith, f)) d xs h (t ∷ ts) s (parse.one_item leaves F n d (t ∷ ts)) refl
+      ((item_steady leaves F n F2 n2 turns low d {K = F} (omega arith)).run (t ∷ ts) tt (omega (arith, s, f))))
 
 -- ---- the fault of a text
-
--- a list at one of its tokens
-pub record At (ts : List Token) (i : ℕ) : Type 0 where
-  pub before : List Token
-  pub token : Token
-  pub after : List Token
-  pub cut : ts ≡ before ++ token ∷ after
-  pub number : length before ≡ i
-
-pub token_at : (ts : List Token) (i : ℕ) → i < length ts → At ts i
-token_at [] i h = absurd (omega (arith, h))
-token_at (t ∷ ts) zero h = record { before = []; token = t; after = ts; cut = refl; number = refl }
-token_at (t ∷ ts) (suc i) h = let q = token_at ts i (omega (arith, h)) in record { before = t ∷ q.before; token = q.token; after = q.after; cut = ap (λ l. t ∷ l) q.cut; number = ap suc q.number }
 
 seen_at : (u : List Token) (t : Token) (more : List Token) (i : ℕ) → length u ≡ i → slice_get (u ++ t ∷ more) i ≡ Some t
 seen_at [] t more zero e = refl
@@ -195,31 +135,31 @@ seen_at (s ∷ u) t more (suc i) e = seen_at u t more i (omega (arith, e))
 
 module _ (toks : TokenList) (list : List Token) (tokens : TokensFrom toks 0 list) where
   -- no tree of any height begins with the tokens up to one that is refused
-  pub refused : (F : ℕ) → length list < F → (k : ℕ) → parse.text_items (leaves_of toks.text) F 199 list ≡ Err (Stuck (suc k)) → (used : List Token) (token : Token) (rest : List Token) → list ≡ used ++ token ∷ rest → length rest ≡ k → NoParameters (used ++ token ∷ [])
+  pub refused : (F : ℕ) → length list < F → (k : ℕ) → parse.text_items (leaves_of toks.text) F 199 list ≡ Err (Stuck (suc k)) → (used : List Token) (token : Token) (rest : List Token) → list ≡ used ++ token ∷ rest → length rest ≡ k
       → (more : List Token) (tree : Tree) (h : ℕ) → IsTreeOf toks.text (used ++ token ∷ more) tree h → ⊥
   unfolding parse.text_items
-  refused F short k e used token rest cut count free more tree h is =
+  refused F short k e used token rest cut count more tree h is =
       let L = leaves_of toks.text in
       let all = used ++ token ∷ more in
       let F2 = F + length all + 1 in
       let n2 = 199 + h in
-      let v = subst (Refuses (parse.items_from L F2 n2 F2 nothing_declared [] 0) list) e (items_refuse L F 199 F2 n2 (omega arith) (omega arith) F F2 (omega arith) (omega arith) nothing_declared refl [] 0 list short) in
+      let v = subst (Refuses (parse.items_from L F2 n2 F2 nothing_declared [] 0) list) e (items_refuse L F 199 F2 n2 (omega arith) (omega arith) F F2 (omega arith) (omega arith) nothing_declared [] 0 list short) in
       let read = text_c L F2 n2 is.items (omega arith) (omega arith) in
-      subst IsErr read (v used token rest cut count free more)
+      subst IsErr read (v used token rest cut count more)
 
   -- nor has the text one that ends too early
-  pub ended : (F : ℕ) → length list < F → parse.text_items (leaves_of toks.text) F 199 list ≡ Err (Stuck 0) → NoParameters list → (tree : Tree) (h : ℕ) → IsTreeOf toks.text list tree h → ⊥
+  pub ended : (F : ℕ) → length list < F → parse.text_items (leaves_of toks.text) F 199 list ≡ Err (Stuck 0) → (tree : Tree) (h : ℕ) → IsTreeOf toks.text list tree h → ⊥
   unfolding parse.text_items
-  ended F short e free tree h is =
+  ended F short e tree h is =
       let L = leaves_of toks.text in
       let F2 = F + 1 in
       let n2 = 199 + h in
-      let v = subst (Refuses (parse.items_from L F2 n2 F2 nothing_declared [] 0) list) e (items_refuse L F 199 F2 n2 (omega arith) (omega arith) F F2 (omega arith) (omega arith) nothing_declared refl [] 0 list short) in
+      let v = subst (Refuses (parse.items_from L F2 n2 F2 nothing_declared [] 0) list) e (items_refuse L F 199 F2 n2 (omega arith) (omega arith) F F2 (omega arith) (omega arith) nothing_declared [] 0 list short) in
       let read = text_c L F2 n2 is.items (omega arith) (omega (arith, short)) in
-      subst IsErr read (v free)
+      subst IsErr read v
 
   named_at : (fault : ParseFault) (i : ℕ) → (q : At toks.list i) → fault.token ≡ i → fault.place ≡ place_of (slice_get toks.list i)
-      → (fault.reason ≡ reason.Unexpected → NoParameters (q.before ++ q.token ∷ []) → (more : List Token) (tree : Tree) (h : ℕ) → IsTreeOf toks.text (q.before ++ q.token ∷ more) tree h → ⊥) → (fault.reason ≡ reason.EndOfText → (q.after ≡ []) × (NoParameters q.before → (tree : Tree) (h : ℕ) → IsTreeOf toks.text q.before tree h → ⊥)) → IsNamed toks fault
+      → (fault.reason ≡ reason.Unexpected → (more : List Token) (tree : Tree) (h : ℕ) → IsTreeOf toks.text (q.before ++ q.token ∷ more) tree h → ⊥) → (fault.reason ≡ reason.EndOfText → (q.after ≡ []) × ((tree : Tree) (h : ℕ) → IsTreeOf toks.text q.before tree h → ⊥)) → IsNamed toks fault
   named_at fault i q t p u e = record {
     before = q.before;
     token = q.token;
@@ -276,14 +216,14 @@ module _ (toks : TokenList) (list : List Token) (tokens : TokensFrom toks 0 list
           let p = token_at list i (omega (arith, size, less, e)) in
           let left : length p.after ≡ j = omega (arith, size, less, e, p.number, ap length p.cut, length-append p.before (p.token ∷ p.after)) in
           named_at f i (within i p) (sym (ap (λ (x : ParseFault). x.token) h)) (sym (ap (λ (x : ParseFault). x.place) h))
-          (λ is free more tree t. refused F short j (r ∙ ap (λ l. Err (Stuck l)) e) p.before p.token p.after p.cut left free more tree t)
+          (λ is more tree t. refused F short j (r ∙ ap (λ l. Err (Stuck l)) e) p.before p.token p.after p.cut left more tree t)
           (λ ends. absurd (let bad : reason.Unexpected ≡ reason.EndOfText = sym w ∙ ap (λ (x : ParseFault). x.reason) h ∙ ends in let z : ⊥ = cc in z))
 
       front : m ≡ 0 → q.before ≡ list
       front none = (one_cut q.before tokens.front q.token tokens.last q.after [] (sym q.cut ∙ tokens.is) (ap length (nothing_behind i (omega (arith, none, size)) q))).0 ∙ sym all
 
-      early : m ≡ 0 → NoParameters q.before → (tree : Tree) (h : ℕ) → IsTreeOf toks.text q.before tree h → ⊥
-      early none free tree h t = ended F short (r ∙ ap (λ l. Err (Stuck l)) none) (subst NoParameters (front none) free) tree h (subst (λ l. IsTreeOf toks.text l tree h) (front none) t)
+      early : m ≡ 0 → (tree : Tree) (h : ℕ) → IsTreeOf toks.text q.before tree h → ⊥
+      early none tree h t = ended F short (r ∙ ap (λ l. Err (Stuck l)) none) tree h (subst (λ l. IsTreeOf toks.text l tree h) (front none) t)
 
       by : (b : Bool) → (m == 0) ≡ b → fault_at toks (if b then reason.EndOfText else reason.Unexpected) i ≡ stop.Fault f → IsNamed toks f
       by true z h =

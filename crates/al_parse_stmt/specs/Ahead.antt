@@ -1,6 +1,6 @@
 -- Where the adt of a result's type is found. The parameters of the adt may stand as types before its name does, so the base type
 -- and the stars are passed by their brackets first.
-use Rattle.std.specs.Prelude.{ℕ, zero, suc, pred, true, if◌then◌else◌, List, [], Ok, Err}
+use Rattle.std.specs.Prelude.{ℕ, zero, suc, pred, Bool, true, false, if◌then◌else◌, List, [], ◌∷◌, Option, Some, None, Ok, Err}
 use Rattle.al_lex.specs.declared.kind.TokenKind.{TokenKind}
 use Rattle.al_lex.specs.declared.kind.TokenKind.TheVariants as k
 use Rattle.al_lex.specs.declared.token.Token.{Token}
@@ -51,10 +51,19 @@ owner_ahead types turns = do
   next ← peek
   if same_kind next k.LeftBracket then pure a.name else refuse
 
-abbrev pub parameters_by : Declared → Outcome ℕ → List ℕ
-parameters_by d (Ok x) = parameters_of d.adts x.0
-parameters_by d (Err e) = []
+abbrev pub some_parameters : List ℕ → Bool
+some_parameters [] = false
+some_parameters (n ∷ ns) = true
 
--- the names that may stand as types in the type of a result that begins with the next token
-unfoldable pub inside_of : Declared → ℕ → List Token → List ℕ
-inside_of d turns ts = parameters_by d (owner_ahead d.types turns ts)
+abbrev pub owner_by : Declared → Outcome ℕ → Option ℕ
+owner_by d (Ok x) = if some_parameters (parameters_of d.adts x.0) then Some x.0 else None
+owner_by d (Err e) = None
+
+-- the adt with parameters that the first declarator behind a base type names with a bracket, where there is one
+unfoldable pub owner_of : Declared → ℕ → List Token → Option ℕ
+owner_of d turns ts = owner_by d (owner_ahead d.types turns ts)
+
+-- the names that may stand as types in the type of a result, where its function is one of that adt
+abbrev pub inside_of : Declared → Option ℕ → List ℕ
+inside_of d None = []
+inside_of d (Some n) = parameters_of d.adts n

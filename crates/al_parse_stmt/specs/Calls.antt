@@ -1,6 +1,5 @@
 -- What the public call answers: the tree of a whole text, or the token at which it has none.
 use Rattle.std.specs.Prelude.{◌≡◌, ℕ, ◌≤◌, List, [], ◌∷◌, ◌++◌, length}
-use Rattle.al_lex.specs.declared.kind.TokenKind.TheVariants as k
 use Rattle.al_lex.specs.declared.token.Token.{Token}
 use Rattle.al_lex.specs.TokenList.{TokenList}
 use Rattle.al_tree.specs.Tree.{IsTreeOf, IsTree, limit}
@@ -14,13 +13,8 @@ pub record IsText (toks : TokenList) (tree : Tree) : Type 0 where
   pub low : height ≤ limit
   pub is : IsTree toks tree height
 
--- no adt with parameters begins among these tokens
-abbrev pub NoParameters : List Token → Type 0
-NoParameters ts = (u v : List Token) (w n l : Token) → ts ≡ u ++ w ∷ n ∷ l ∷ v → w.kind ≡ k.Adt → n.kind ≡ k.Name → l.kind ≡ k.LeftBracket → ⊥
-
 -- The token that a fault names. Where it is unexpected, no list of tokens that begins with the tokens up to and with that one has a
--- tree of any height, unless an adt with parameters begins among them. A text that ends too early has its fault at the End token, and
--- no tree of any height either, unless an adt with parameters begins in it.
+-- tree of any height. A text that ends too early has its fault at the End token, and no tree of any height either.
 pub record IsNamed (toks : TokenList) (fault : ParseFault) : Type 0 where
   pub before : List Token
   pub token : Token
@@ -28,5 +22,5 @@ pub record IsNamed (toks : TokenList) (fault : ParseFault) : Type 0 where
   pub cut : toks.list ≡ before ++ token ∷ after
   pub number : length before ≡ fault.token
   pub place : fault.place ≡ token.place
-  pub unexpected : fault.reason ≡ reason.Unexpected → NoParameters (before ++ token ∷ []) → (more : List Token) (tree : Tree) (h : ℕ) → IsTreeOf toks.text (before ++ token ∷ more) tree h → ⊥
-  pub ends : fault.reason ≡ reason.EndOfText → (after ≡ []) × (NoParameters before → (tree : Tree) (h : ℕ) → IsTreeOf toks.text before tree h → ⊥)
+  pub unexpected : fault.reason ≡ reason.Unexpected → (more : List Token) (tree : Tree) (h : ℕ) → IsTreeOf toks.text (before ++ token ∷ more) tree h → ⊥
+  pub ends : fault.reason ≡ reason.EndOfText → (after ≡ []) × ((tree : Tree) (h : ℕ) → IsTreeOf toks.text before tree h → ⊥)

@@ -10,6 +10,7 @@ use Rattle.al_tree.specs.declared.expression.Name.{Name}
 use Rattle.al_tree.specs.declared.item.Owner.{Owner}
 use Rattle.al_tree.specs.declared.item.Declarator.{Declarator}
 use Rattle.al_tree.specs.declared.item.Declarator.TheVariants as dec
+use Rattle.al_parse_stmt.specs.declared.heads.FirstName.{FirstName}
 use Rattle.al_parse_type.specs.Parse.{sees_type_name, other_name, bounds_from, stars_from}
 use Rattle.al_parse_member.specs.Parameters.{Parameters, type_name, parameter_list}
 use Rattle.al_parse_member.specs.Members.{initializer}
@@ -69,19 +70,40 @@ module _ (leaves : Leaves) (types : List ℕ) (turns depth : ℕ) where
     ps ← parameter_list leaves types turns depth
     pure (headed at stars None n ps)
 
-  unfoldable pub named_declarator : Place → ℕ → Parser SizedDeclarator
-  named_declarator at stars = do
-    n ← other_name types
+  -- what goes on behind a name that is no type's
+  abbrev pub named_after : Place → ℕ → Token → Parser SizedDeclarator
+  named_after at stars n = do
     next ← peek
     if same_kind next k.LeftParen then plain_head at stars n else global_after at stars n
 
+  unfoldable pub named_declarator : Place → ℕ → Parser SizedDeclarator
+  named_declarator at stars = do
+    n ← other_name types
+    named_after at stars n
+
 module _ (leaves : Leaves) (turns depth : ℕ) (d : Declared) where
-  -- the adt's name, and what goes on behind it
+  -- "[" and what goes on in it and behind it, behind the adt's name
+  unfoldable pub bracketed : Place → ℕ → Token → Parser SizedDeclarator
+  bracketed at stars a = do
+    take_if true
+    parametrised_head leaves (with_names d.types (parameters_of d.adts a.name)) turns depth at stars a
+
+  -- "." and what goes on behind it, behind the adt's name
+  unfoldable pub dotted : Place → ℕ → Token → Parser SizedDeclarator
+  dotted at stars a = do
+    expect k.Dot
+    owned_head leaves d.types turns depth at stars (record { adt = name_at a; parameters = [] })
+
+  -- what goes on behind the adt's name
+  unfoldable pub owned_after : Place → ℕ → Token → Parser SizedDeclarator
+  owned_after at stars a = do
+    next ← peek
+    if same_kind next k.LeftBracket then bracketed at stars a else dotted at stars a
+
   unfoldable pub owned_declarator : Place → ℕ → Parser SizedDeclarator
   owned_declarator at stars = do
     a ← type_name d.types
-    next ← peek
-    if same_kind next k.LeftBracket then (take_if true >> parametrised_head leaves (with_names d.types (parameters_of d.adts a.name)) turns depth at stars a) else (expect k.Dot >> owned_head leaves d.types turns depth at stars (record { adt = name_at a; parameters = [] }))
+    owned_after at stars a
 
   -- gdcl : dcl ("=" init)? | fhead
   unfoldable pub declarator : Parser SizedDeclarator
@@ -90,6 +112,10 @@ module _ (leaves : Leaves) (turns depth : ℕ) (d : Declared) where
     stars ← stars_from turns 0
     is_type ← looks (sees_type_name d.types)
     if is_type then owned_declarator at stars else named_declarator leaves d.types turns depth at stars
+
+  -- the first declarator, behind the name that it has
+  unfoldable pub declarator_after : FirstName → Parser SizedDeclarator
+  declarator_after y = if y.owned then owned_after y.at y.stars y.name else named_after leaves d.types turns depth y.at y.stars y.name
 
   unfoldable pub declarators_from : ℕ → List Declarator → ℕ → Parser Declarators
   declarators_from zero xs h = refuse

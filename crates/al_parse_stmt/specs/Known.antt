@@ -33,3 +33,8 @@ declared_of known = record { types = known.types; adts = adts_of known.adts }
 abbrev pub ReadsItem : Outcome ReadItem → Result (Item × ℕ) ParseError → Known → List Token → Type 0
 ReadsItem outcome (Ok x) known new = outcome ≡ Ok (record { item = x.0; after = declared_of known; height = x.1 }, new)
 ReadsItem outcome (Err e) known new = e ≢ NoMemory → outcome ≡ Err e
+
+-- what a function ensures that declares names for a while, unless memory runs out
+abbrev pub Restores : {A : Type 0} → Result A ParseError → Declared → Declared → Type 0
+Restores (Ok a) old new = new ≡ old
+Restores (Err e) old new = e ≢ NoMemory → new ≡ old

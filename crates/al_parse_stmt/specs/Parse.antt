@@ -25,8 +25,8 @@ use Rattle.al_parse_type.specs.Within.{base_within}
 use Rattle.al_parse_block.specs.Parse.{block_within}
 use Rattle.al_parse_member.specs.Parameters.{Parameters, parameter_list}
 use Rattle.al_parse_member.specs.Members.{enum_body, members_within, adt_body}
-use Rattle.al_parse_stmt.specs.Heads.{SizedDeclarator, new_names_from, declarator, declarators_from}
-use Rattle.al_parse_stmt.specs.Ahead.{inside_of}
+use Rattle.al_parse_stmt.specs.Heads.{SizedDeclarator, new_names_from, declarator_after, declarators_from}
+use Rattle.al_parse_stmt.specs.Begun.{begun}
 
 -- an item, what is declared behind it, and its height
 pub record ReadItem : Type 0 where
@@ -183,10 +183,9 @@ module _ (leaves : Leaves) (turns depth : ℕ) (d : Declared) where
   -- behind the word before it or none
   unfoldable pub declared : Place → Option Scope → Parser ReadItem
   declared at scope = do
-    inside ← looks (inside_of d turns)
-    b ← base_within leaves (with_names d.types inside) turns depth
-    x ← declarator leaves turns depth d
-    behind_first at scope b x.0 x.1
+    y ← begun leaves turns depth d
+    x ← declarator_after leaves turns depth d y.1
+    behind_first at scope y.0 x.0 x.1
 
   unfoldable pub scoped : Scope → Parser ReadItem
   scoped word = do

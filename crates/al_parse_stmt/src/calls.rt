@@ -4,8 +4,8 @@ ghost use Rattle.al_tree.specs.declared.fault.ParseFault.{ParseFault as SpecFaul
 ghost use Rattle.al_tree.specs.declared.item.Tree.{Tree as SpecTree};
 ghost use Rattle.al_parse_stmt.specs.Calls.{IsText, IsNamed};
 
-use crate::items::Reader;
 use crate::names::names_of;
+use crate::reader::Reader;
 use al_lex::Tokens;
 use al_tree::{Cursor, ParseStop, Tree, tokens_from};
 use std::alloc::Global;
@@ -14,7 +14,7 @@ use std::alloc::Global;
 const LIMIT: u32 = 200;
 
 /// The tree of these tokens. A fault is told where the text has no tree of at most 200 levels. It names a token: where that is
-/// unexpected, and no adt with parameters begins before it, no tokens that begin with those up to it are a text.
+/// unexpected, no tokens that begin with those up to it are a text.
 pub fn parse(alloc: Global, toks: &Tokens) -> Result<Tree, ParseStop>
     ensures tree { IfOk result (IsText toks.now) }
     ensures whole { (tree : SpecTree) → IsText toks.now tree → result ≢ Err ParseStop.NoMemory → result ≡ Ok tree }

@@ -13,6 +13,17 @@ use al_parse_type::{bounds_from, other_name};
 use al_tree::{Cursor, Dcl, Declarator, Head, Name, Owner, Parameter, ParseError, TypeNames};
 use std::alloc::Global;
 
+/// The name of the first declarator of a declaration, behind its stars.
+#[derive(Clone, Copy)]
+pub(crate) struct FirstName {
+    /// Where the stars begin.
+    pub(crate) at: Place,
+    pub(crate) stars: u32,
+    pub(crate) name: Token,
+    /// Whether it is a type's name, behind which the name of a function follows.
+    pub(crate) owned: bool,
+}
+
 /// A list with one element.
 pub(crate) fn only_name(alloc: Global, t: Token) -> Result<Items<Name>, NoMemory>
     ensures { IfOk result (λ all. all ≡ grammar.name_at t ∷ []) }
@@ -183,6 +194,27 @@ fn plain_head(
 }
 
 /// A declarator of no adt's function, behind its stars.
+/// What goes on behind a name that is no type's.
+pub(crate) fn named_after(
+    here: &Context<'_>,
+    at: Place,
+    stars: u32,
+    n: Token,
+    tokens: &mut Cursor<'_>,
+) -> Result<(Declarator, u32), ParseError>
+    requires turns { here.now.turns < 2 ^ 32 }
+    requires depth { here.now.depth < 999 }
+    ensures reads { Reads (spec.named_after (leaves_of here.now.text.now) here.now.types.now here.now.turns here.now.depth at stars n tokens.old) result tokens.new }
+    ensures low { IfOk result (λ y. y.1 ≤ here.now.depth) }
+{
+    if tokens.next_is(TokenKind::LeftParen) {
+        plain_head(here, at, stars, n, tokens)
+    } else {
+        global_after(here, at, stars, n, tokens)
+    }
+}
+
+/// A declarator of no adt's function, behind its stars.
 #[tactic(auto, unfolding(crate::specs::Heads::named_declarator))]
 pub(crate) fn named_declarator(
     here: &Context<'_>,
@@ -196,9 +228,5 @@ pub(crate) fn named_declarator(
     ensures low { IfOk result (λ y. y.1 ≤ here.now.depth) }
 {
     let n = other_name(here.types, tokens)?;
-    if tokens.next_is(TokenKind::LeftParen) {
-        plain_head(here, at, stars, n, tokens)
-    } else {
-        global_after(here, at, stars, n, tokens)
-    }
+    named_after(here, at, stars, n, tokens)
 }

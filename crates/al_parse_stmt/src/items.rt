@@ -5,24 +5,26 @@ ghost use Rattle.al_tree.specs.Reading.{Reads};
 ghost use Rattle.al_tree.specs.Types.{with_name, with_names};
 ghost use Rattle.al_tree.specs.Items as rules;
 ghost use Rattle.al_tree.specs.Words as words;
-ghost use Rattle.al_parse_type.specs.Within as type_spec;
 ghost use Rattle.al_parse_block.specs.Parse as block_spec;
 ghost use Rattle.al_parse_member.specs.Members as members;
-ghost use Rattle.al_parse_member.specs.Parameters as parameters;
 ghost use Rattle.al_parse_stmt.specs.Heads as heads;
 ghost use Rattle.al_parse_stmt.specs.Parse as spec;
 ghost use Rattle.al_parse_stmt.specs.Known.{declared_of, ReadsItem};
 
 use crate::adts::{declare_all, numbers_of};
-use crate::heads::{named_declarator, new_names_from, only_name, owned_head, parametrised_head};
-use crate::known::{Known, add_parameters, declare, inside_of, nothing_known, parameters_of};
+use crate::heads::{
+    FirstName, named_after, named_declarator, new_names_from, only_name, owned_head,
+    parametrised_head,
+};
+use crate::known::{Known, add_parameters, declare, nothing_known, parameters_of};
+use crate::reader::Reader;
 use al_base::{NoMemory, Place};
 use al_items::Items;
 use al_lex::{Token, TokenKind};
 use al_parse_block::block_within;
-use al_parse_member::{Context, name_at, type_name};
+use al_parse_member::{name_at, type_name};
 use al_parse_type::{
-    ReadBase, base_within, bounds_from, other_name, sees_other_name, sees_type_name, stars_from,
+    ReadBase, bounds_from, other_name, sees_other_name, sees_type_name, stars_from,
 };
 use al_tree::{
     AdtMember, AggregateKind, Cursor, Dcl, Declarator, Head, Item, Name, Owner, Parameter,
@@ -62,61 +64,8 @@ fn semicolon(tokens: &mut Cursor<'_>) -> Result<u32, ParseError>
     Ok(0)
 }
 
-/// Where items are parsed, of at most `depth + 1` levels.
-#[derive(Clone, Copy)]
-pub(crate) struct Reader {
-    pub(crate) alloc: Global,
-    /// How many turns a loop makes at most: more than there are tokens.
-    pub(crate) turns: usize,
-    /// How many levels what stands inside an item may have.
-    pub(crate) depth: u32,
-}
-
 impl Reader {
-    /// The same, where these names are types.
-    fn context<'a>(&self, text: &'a [u8], types: &'a TypeNames) -> Context<'a>
-        ensures text { result.text.now ≡ text.now }
-        ensures types { result.types.now ≡ types.now }
-        ensures turns { result.turns ≡ self.now.turns }
-        ensures depth { result.depth ≡ self.now.depth }
-    {
-        Context {
-            alloc: self.alloc,
-            text,
-            types,
-            turns: self.turns,
-            depth: self.depth,
-        }
-    }
-
-    fn base(
-        &self,
-        text: &[u8],
-        types: &TypeNames,
-        tokens: &mut Cursor<'_>,
-    ) -> Result<ReadBase, ParseError>
-        requires depth { self.now.depth < 999 }
-        ensures reads { Reads (type_spec.base_within (leaves_of text.now) types.now self.now.turns self.now.depth tokens.old) result tokens.new }
-        ensures low { IfOk result (λ y. y.height ≤ self.now.depth) }
-    {
-        base_within(self.alloc, text, types, self.turns, self.depth, tokens)
-    }
-
     // ---- typedef
-
-    fn parameters(
-        &self,
-        text: &[u8],
-        known: &Known,
-        tokens: &mut Cursor<'_>,
-    ) -> Result<(Items<Parameter>, u32), ParseError>
-        requires turns { self.now.turns < 2 ^ 32 }
-        requires depth { self.now.depth < 999 }
-        ensures reads { Reads (parameters.parameter_list (leaves_of text.now) known.now.types self.now.turns self.now.depth tokens.old) result tokens.new }
-        ensures low { IfOk result (λ y. y.1 ≤ self.now.depth) }
-    {
-        self.context(text, &known.types).parameter_list(tokens)
-    }
 
     /// The parameters of a function type, and the semicolon.
     #[tactic(auto, unfolding(crate::specs::Parse::typed_parameters))]
@@ -539,6 +488,80 @@ impl Reader {
 
     // ---- declarations and functions
 
+    /// A dot and what goes on behind it, behind the name of an adt.
+    #[tactic(auto, unfolding(crate::specs::Heads::dotted))]
+    fn dotted(
+        &self,
+        text: &[u8],
+        at: Place,
+        stars: u32,
+        a: Token,
+        known: &Known,
+        tokens: &mut Cursor<'_>,
+    ) -> Result<(Declarator, u32), ParseError>
+        requires turns { self.now.turns < 2 ^ 32 }
+        requires depth { self.now.depth < 999 }
+        ensures reads { Reads (heads.dotted (leaves_of text.now) self.now.turns self.now.depth (declared_of known.now) at stars a tokens.old) result tokens.new }
+        ensures low { IfOk result (λ y. y.1 ≤ self.now.depth) }
+    {
+        tokens.expect(TokenKind::Dot)?;
+        let owner = Owner {
+            adt: name_at(a),
+            parameters: Items::new(self.alloc),
+        };
+        owned_head(&self.context(text, &known.types), at, stars, owner, tokens)
+    }
+
+    /// A bracket and what goes on in it and behind it, behind the name of an adt.
+    #[tactic(auto, unfolding(crate::specs::Heads::bracketed))]
+    fn bracketed(
+        &self,
+        text: &[u8],
+        at: Place,
+        stars: u32,
+        a: Token,
+        known: &mut Known,
+        tokens: &mut Cursor<'_>,
+    ) -> Result<(Declarator, u32), ParseError>
+        requires turns { self.now.turns < 2 ^ 32 }
+        requires depth { self.now.depth < 999 }
+        ensures reads { Reads (heads.bracketed (leaves_of text.now) self.now.turns self.now.depth (declared_of known.old) at stars a tokens.old) result tokens.new }
+        ensures low { IfOk result (λ y. y.1 ≤ self.now.depth) }
+        ensures same { OnOk result (declared_of known.new ≡ declared_of known.old) }
+    {
+        tokens.take_if(true)?;
+        let inside = parameters_of(self.alloc, &known.adts, a.name)?;
+        let count = known.types.len();
+        declare_all(&mut known.types, &inside)?;
+        let read = parametrised_head(&self.context(text, &known.types), at, stars, a, tokens)?;
+        known.types.truncate(count);
+        Ok(read)
+    }
+
+    /// What goes on behind the adt's name in the head of a function of it.
+    #[tactic(auto, unfolding(crate::specs::Heads::owned_after))]
+    fn owned_after(
+        &self,
+        text: &[u8],
+        at: Place,
+        stars: u32,
+        a: Token,
+        known: &mut Known,
+        tokens: &mut Cursor<'_>,
+    ) -> Result<(Declarator, u32), ParseError>
+        requires turns { self.now.turns < 2 ^ 32 }
+        requires depth { self.now.depth < 999 }
+        ensures reads { Reads (heads.owned_after (leaves_of text.now) self.now.turns self.now.depth (declared_of known.old) at stars a tokens.old) result tokens.new }
+        ensures low { IfOk result (λ y. y.1 ≤ self.now.depth) }
+        ensures same { OnOk result (declared_of known.new ≡ declared_of known.old) }
+    {
+        if tokens.next_is(TokenKind::LeftBracket) {
+            self.bracketed(text, at, stars, a, known, tokens)
+        } else {
+            self.dotted(text, at, stars, a, known, tokens)
+        }
+    }
+
     /// The head of a function of an adt, behind its stars.
     #[tactic(auto, unfolding(crate::specs::Heads::owned_declarator))]
     fn owned_declarator(
@@ -556,21 +579,7 @@ impl Reader {
         ensures same { OnOk result (declared_of known.new ≡ declared_of known.old) }
     {
         let a = type_name(&known.types, tokens)?;
-        if !tokens.next_is(TokenKind::LeftBracket) {
-            tokens.expect(TokenKind::Dot)?;
-            let owner = Owner {
-                adt: name_at(a),
-                parameters: Items::new(self.alloc),
-            };
-            return owned_head(&self.context(text, &known.types), at, stars, owner, tokens);
-        }
-        tokens.take_if(true)?;
-        let inside = parameters_of(self.alloc, &known.adts, a.name)?;
-        let count = known.types.len();
-        declare_all(&mut known.types, &inside)?;
-        let read = parametrised_head(&self.context(text, &known.types), at, stars, a, tokens)?;
-        known.types.truncate(count);
-        Ok(read)
+        self.owned_after(text, at, stars, a, known, tokens)
     }
 
     #[tactic(auto, unfolding(crate::specs::Heads::declarator))]
@@ -592,6 +601,34 @@ impl Reader {
             self.owned_declarator(text, at, stars, known, tokens)
         } else {
             named_declarator(&self.context(text, &known.types), at, stars, tokens)
+        }
+    }
+
+    /// The first declarator, behind the name that it has.
+    #[tactic(auto, unfolding(crate::specs::Heads::declarator_after))]
+    fn declarator_after(
+        &self,
+        text: &[u8],
+        y: FirstName,
+        known: &mut Known,
+        tokens: &mut Cursor<'_>,
+    ) -> Result<(Declarator, u32), ParseError>
+        requires turns { self.now.turns < 2 ^ 32 }
+        requires depth { self.now.depth < 999 }
+        ensures reads { Reads (heads.declarator_after (leaves_of text.now) self.now.turns self.now.depth (declared_of known.old) y tokens.old) result tokens.new }
+        ensures low { IfOk result (λ y. y.1 ≤ self.now.depth) }
+        ensures same { OnOk result (declared_of known.new ≡ declared_of known.old) }
+    {
+        if y.owned {
+            self.owned_after(text, y.at, y.stars, y.name, known, tokens)
+        } else {
+            named_after(
+                &self.context(text, &known.types),
+                y.at,
+                y.stars,
+                y.name,
+                tokens,
+            )
         }
     }
 
@@ -767,26 +804,6 @@ impl Reader {
         }
     }
 
-    /// The type of a result, in which these names are types too.
-    fn base_among(
-        &self,
-        text: &[u8],
-        inside: &Items<u32>,
-        known: &mut Known,
-        tokens: &mut Cursor<'_>,
-    ) -> Result<ReadBase, ParseError>
-        requires depth { self.now.depth < 999 }
-        ensures reads { Reads (type_spec.base_within (leaves_of text.now) (with_names known.old.types inside.now) self.now.turns self.now.depth tokens.old) result tokens.new }
-        ensures low { IfOk result (λ y. y.height ≤ self.now.depth) }
-        ensures same { OnOk result (declared_of known.new ≡ declared_of known.old) }
-    {
-        let count = known.types.len();
-        declare_all(&mut known.types, inside)?;
-        let read = self.base(text, &known.types, tokens)?;
-        known.types.truncate(count);
-        Ok(read)
-    }
-
     #[tactic(auto, unfolding(crate::specs::Parse::declared))]
     fn declared(
         &self,
@@ -802,9 +819,8 @@ impl Reader {
         ensures reads { ReadsItem (spec.declared (leaves_of text.now) self.now.turns self.now.depth (declared_of known.old) at scope tokens.old) result known.new tokens.new }
         ensures low { IfOk result (λ y. y.1 ≤ self.now.depth + 1) }
     {
-        let inside = inside_of(self.alloc, known, self.turns, tokens)?;
-        let b = self.base_among(text, &inside, known, tokens)?;
-        let x = self.declarator(text, known, tokens)?;
+        let (b, y) = self.begun(text, known, tokens)?;
+        let x = self.declarator_after(text, y, known, tokens)?;
         self.behind_first(text, at, scope, b, x, known, tokens)
     }
 

@@ -1,7 +1,8 @@
 //! What the items so far declared.
-ghost use Rattle.std.specs.Prelude.{◌≡◌, ◌<◌, ◌^◌, [], OnOk, IfOk};
+ghost use Rattle.std.specs.Prelude.{◌≡◌, ◌<◌, ◌^◌, [], Some, None, OnOk, IfOk};
 ghost use Rattle.al_tree.specs.Items as items;
 ghost use Rattle.al_parse_stmt.specs.Ahead as ahead;
+ghost use Rattle.al_parse_stmt.specs.Begun as begun;
 ghost use Rattle.al_parse_stmt.specs.Known as kept;
 ghost use Rattle.al_parse_stmt.specs.Known.{adts_of, declared_of};
 
@@ -89,21 +90,64 @@ pub(crate) fn add_parameters(
     Ok(())
 }
 
-/// The names that may stand as types in the type of a result that begins with the next token.
-#[tactic(auto, unfolding(crate::specs::Ahead::inside_of))]
-pub(crate) fn inside_of(
+/// Whether there are parameters.
+pub(crate) fn some_parameters(parameters: &Items<u32>) -> bool
+    ensures { result ≡ ahead.some_parameters parameters.now }
+{
+    match parameters.as_slice().split_first() {
+        None => false,
+        Some(_) => true,
+    }
+}
+
+/// The adt with parameters that is named with a bracket behind the base type that begins with the next token.
+#[tactic(auto, unfolding(crate::specs::Ahead::owner_of))]
+pub(crate) fn owner_of(
     alloc: Global,
     known: &Known,
     turns: usize,
     tokens: &Cursor<'_>,
-) -> Result<Items<u32>, NoMemory>
+) -> Result<Option<u32>, NoMemory>
     requires { turns < 2 ^ 32 }
-    ensures { IfOk result (λ all. all ≡ ahead.inside_of (declared_of known.now) turns tokens.now) }
+    ensures { IfOk result (λ owner. owner ≡ ahead.owner_of (declared_of known.now) turns tokens.now) }
 {
     let mut further = tokens.fork();
     match owner_ahead(turns, &known.types, &mut further) {
-        Ok(name) => parameters_of(alloc, &known.adts, name),
+        Ok(name) => {
+            let parameters = parameters_of(alloc, &known.adts, name)?;
+            if some_parameters(&parameters) {
+                Ok(Some(name))
+            } else {
+                Ok(None)
+            }
+        }
         Err(ParseError::NoMemory) => Err(NoMemory),
-        Err(_) => Ok(Items::new(alloc)),
+        Err(_) => Ok(None),
     }
+}
+
+/// The names that are types too where the parameters of that adt are.
+pub(crate) fn inside_of(
+    alloc: Global,
+    known: &Known,
+    owner: Option<u32>,
+) -> Result<Items<u32>, NoMemory>
+    ensures { IfOk result (λ all. all ≡ ahead.inside_of (declared_of known.now) owner) }
+{
+    match owner {
+        None => Ok(Items::new(alloc)),
+        Some(name) => parameters_of(alloc, &known.adts, name),
+    }
+}
+
+/// The names of the adts with parameters.
+#[tactic(auto, using(crate::proofs::LastFirst::one_owner))]
+pub(crate) fn owners(alloc: Global, adts: &Items<AdtParameters>) -> Result<Items<u32>, NoMemory>
+    ensures { IfOk result (λ all. all ≡ begun.owners (adts_of adts.now)) }
+{
+    let mut all = Items::new(alloc);
+    for a in adts.as_slice() {
+        all.push(a.adt)?;
+    }
+    Ok(all)
 }

@@ -3,10 +3,12 @@
 
 mod adts;
 mod ahead;
+mod begun;
 mod calls;
 mod heads;
 mod items;
 mod known;
 mod names;
+mod reader;
 
 pub use calls::parse;

@@ -19,7 +19,7 @@ fn answer(rt: &impl Abort, alloc: Global, text: &[u8]) -> Result<Option<Answer>,
     })
 }
 
-static TEXTS: [(&[u8], Answer); 60] = [
+static TEXTS: [(&[u8], Answer); 72] = [
     (b"", Ok(0)),
     (b"int a;", Ok(1)),
     (b"int a,*b[3],c=1;", Ok(1)),
@@ -79,7 +79,28 @@ static TEXTS: [(&[u8], Answer); 60] = [
     (b"aggr T{int f();}", Err((ParseReason::Unexpected, 5))),
     (b"aggr T{int;}", Err((ParseReason::Unexpected, 4))),
     (b"adt A[T,A]{int a;}", Err((ParseReason::Unexpected, 5))),
-    (b"adt A[T]{T a;}T b;", Err((ParseReason::Unexpected, 10))),
+    (b"adt A[T]{T a;}T b;", Err((ParseReason::Unexpected, 11))),
+    (b"adt A[T]{T a;}T*b;", Err((ParseReason::Unexpected, 12))),
+    (b"adt A[T]{T a;}T A;", Err((ParseReason::Unexpected, 12))),
+    (
+        b"adt A[T]{T a;}T A.f();",
+        Err((ParseReason::Unexpected, 12)),
+    ),
+    (b"adt A[T]{T a;}T", Err((ParseReason::EndOfText, 11))),
+    (b"adt A[T]{T a;}T A[T].f();", Ok(2)),
+    (b"adt A[T,U]{T a;}(U,T)A[T,U].f();", Ok(2)),
+    (b"adt A[T]{T a;}(T,U)b;", Err((ParseReason::Unexpected, 13))),
+    (
+        b"adt A[T]{T a;}adt B[U]{U a;}U A[U].f();",
+        Err((ParseReason::Unexpected, 21)),
+    ),
+    (b"adt A[T]{T a;}adt B[U]{U a;}U B[U].f();", Ok(3)),
+    (
+        b"adt A[T]{T a;}chan(int)[T]A[T].f();",
+        Err((ParseReason::Unexpected, 18)),
+    ),
+    (b"adt A[T]{T a;}chan(int)[T]b;", Ok(2)),
+    (b"adt A[T]{T a;}int x", Err((ParseReason::EndOfText, 12))),
     (
         b"adt A[T]{T a;}int A[int].f();",
         Err((ParseReason::Unexpected, 13)),

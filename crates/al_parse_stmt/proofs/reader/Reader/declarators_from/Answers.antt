@@ -4,7 +4,7 @@ use Rattle.al_tree.specs.Leaves.{leaves_of}
 use Rattle.al_tree.proofs.Turns.{one_more, no_more}
 use Rattle.al_parse_stmt.specs.Known.{declared_of}
 use Rattle.al_parse_stmt.specs.Heads.{declarators_from}
-use Rattle.al_parse_stmt.proofs.items.Reader.declarators_from.Goals as goal
+use Rattle.al_parse_stmt.proofs.reader.Reader.declarators_from.Goals as goal
 
 pub returns-then-not-next_is-clause-reads : goal.returns-then-not-next_is-clause-reads
 unfolding declarators_from

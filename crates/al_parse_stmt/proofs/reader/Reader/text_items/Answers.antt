@@ -4,7 +4,7 @@ use Rattle.al_tree.specs.Leaves.{leaves_of}
 use Rattle.al_tree.proofs.Turns.{one_more, no_more}
 use Rattle.al_parse_stmt.specs.Known.{declared_of}
 use Rattle.al_parse_stmt.specs.Parse.{items_from, text_items}
-use Rattle.al_parse_stmt.proofs.items.Reader.text_items.Goals as goal
+use Rattle.al_parse_stmt.proofs.reader.Reader.text_items.Goals as goal
 
 pub returns-then-left-eq0-clause-reads : goal.returns-then-left-eq0-clause-reads
 unfolding items_from text_items
