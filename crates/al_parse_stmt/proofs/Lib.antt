@@ -1,3 +1,4 @@
+pub mod Judge
 pub mod NamesAre
 pub mod KeptNames
 pub mod LastFirst
