@@ -8,7 +8,8 @@ use Rattle.al_tree.specs.declared.item.Tree.{Tree}
 use Rattle.al_tree.specs.declared.fault.ParseFault.{ParseFault}
 use Rattle.al_tree.specs.declared.fault.ParseStop.{ParseStop}
 use Rattle.al_tree.specs.declared.fault.ParseStop.TheVariants as parse
-use Rattle.al_parse_stmt.specs.Calls.{IsText, IsNamed}
+use Rattle.al_tree.specs.Tree.{IsParseFault}
+use Rattle.al_parse_stmt.specs.Calls.{IsText}
 use Rattle.al_front.specs.Stops.{of_parse}
 use Rattle.al_front.specs.Accepted.{IsRead, LacksTree, IsRefused}
 use Rattle.al_front.specs.declared.refused.Refused.{Refused}
@@ -28,9 +29,9 @@ module _ (text : List ℕ) (toks : TokenList) (told : toks.text ≡ text) where
       let P : TokenList → Type 0 = λ k. IsText k tree in
       subst P (sym as_told) (subst L list read.is)
 
-  lacks_tree : (f : ParseFault) → length text ≤ 2 ^ 20 → IsCutInto text toks.list → IsNamed toks f → ((tree : Tree) → IsText toks tree → ⊥) → LacksTree text f
+  lacks_tree : (f : ParseFault) → length text ≤ 2 ^ 20 → IsCutInto text toks.list → IsParseFault toks f → ((tree : Tree) → IsText toks tree → ⊥) → LacksTree text f
   lacks_tree f short cut named none =
-      let N : TokenList → Type 0 = λ k. IsNamed k f in
+      let N : TokenList → Type 0 = λ k. IsParseFault k f in
       record {
         short = short;
         tokens = toks.list;
@@ -45,7 +46,7 @@ module _ (text : List ℕ) (toks : TokenList) (told : toks.text ≡ text) where
 
   module _ (result : Result Tree FrontStop) (y : FrontStop) (is : result ≡ Err y) where
     pub treeless_refuses : (s : ParseStop) → y ≡ of_parse s → length text ≤ 2 ^ 20 → IsCutInto text toks.list
-        → ((f : ParseFault) → ◌≡◌ {A = Result Tree ParseStop} (Err s) (Err (parse.Fault f)) → IsNamed toks f)
+        → ((f : ParseFault) → ◌≡◌ {A = Result Tree ParseStop} (Err s) (Err (parse.Fault f)) → IsParseFault toks f)
         → ((tree : Tree) → IsText toks tree → ◌≢◌ {A = Result Tree ParseStop} (Err s) (Err parse.NoMemory) → ◌≡◌ {A = Result Tree ParseStop} (Err s) (Ok tree))
         → (r : Refused) → result ≡ Err (stop.Refused r) → IsRefused text r
     treeless_refuses (parse.Fault f) of short cut named whole r e =

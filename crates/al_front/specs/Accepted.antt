@@ -5,7 +5,8 @@ use Rattle.al_lex.specs.Cut.{Stuck}
 use Rattle.al_lex.specs.Written.{IsCutInto}
 use Rattle.al_tree.specs.declared.item.Tree.{Tree}
 use Rattle.al_tree.specs.declared.fault.ParseFault.{ParseFault}
-use Rattle.al_parse_stmt.specs.Calls.{IsText, IsNamed}
+use Rattle.al_tree.specs.Tree.{IsParseFault}
+use Rattle.al_parse_stmt.specs.Calls.{IsText}
 use Rattle.al_rules.specs.declared.fault.TypeFault.{TypeFault}
 use Rattle.al_rules.specs.declared.fault.TypeStop.TheVariants as typing
 use Rattle.al_rules.specs.Outcome.{Outcome, Good, permits}
@@ -53,7 +54,7 @@ pub record LacksTree (text : List ℕ) (fault : ParseFault) : Type 0 where
   pub short : length text ≤ most
   pub tokens : List Token
   pub cut : IsCutInto text tokens
-  pub named : IsNamed (record { list = tokens; text = text }) fault
+  pub named : IsParseFault (record { list = tokens; text = text }) fault
   pub none : (tree : Tree) → IsText (record { list = tokens; text = text }) tree → ⊥
 
 -- a use of an adt with parameters breaks rule 13 or 14, or there are more than 256 instances

@@ -15,4 +15,7 @@ pub mod HeadSteady
 pub mod Furthest
 pub mod BegunSteady
 pub mod ItemSteady
-pub mod TextSteady
+pub mod FitsKept
+pub mod ItemJudge
+pub mod TextJudge
+pub mod TextFault

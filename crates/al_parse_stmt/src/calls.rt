@@ -2,7 +2,8 @@
 ghost use Rattle.std.specs.Prelude.{◌≡◌, ◌≢◌, Ok, Err, IfOk};
 ghost use Rattle.al_tree.specs.declared.fault.ParseFault.{ParseFault as SpecFault};
 ghost use Rattle.al_tree.specs.declared.item.Tree.{Tree as SpecTree};
-ghost use Rattle.al_parse_stmt.specs.Calls.{IsText, IsNamed};
+ghost use Rattle.al_tree.specs.Tree.{IsParseFault};
+ghost use Rattle.al_parse_stmt.specs.Calls.{IsText};
 
 use crate::names::names_of;
 use crate::reader::Reader;
@@ -13,12 +14,13 @@ use std::alloc::Global;
 /// How many levels a tree may have.
 const LIMIT: u32 = 200;
 
-/// The tree of these tokens. A fault is told where the text has no tree of at most 200 levels. It names a token: where that is
-/// unexpected, no tokens that begin with those up to it are a text.
+/// The tree of these tokens. A fault is told where the text has no tree of at most 200 levels. It names a token and its place. Where that is
+/// unexpected, no tree of any height begins with the tokens up to and with it; a text that ends too early begins some tree and has none; and
+/// where the token goes too deep, some tree begins with the tokens up to and with it, and every such tree has more than 200 levels.
 pub fn parse(alloc: Global, toks: &Tokens) -> Result<Tree, ParseStop>
     ensures tree { IfOk result (IsText toks.now) }
     ensures whole { (tree : SpecTree) → IsText toks.now tree → result ≢ Err ParseStop.NoMemory → result ≡ Ok tree }
-    ensures fault { (fault : SpecFault) → result ≡ Err (ParseStop.Fault fault) → IsNamed toks.now fault }
+    ensures fault { (fault : SpecFault) → result ≡ Err (ParseStop.Fault fault) → IsParseFault toks.now fault }
 {
     let turns = toks.len();
     let list = tokens_from(toks, 0);

@@ -4,7 +4,7 @@ use Rattle.al_tree.specs.declared.cursor.ParseError.TheVariants.{NoMemory}
 use Rattle.al_tree.specs.declared.fault.ParseStop.TheVariants.{Fault}
 use Rattle.al_parse_stmt.specs.Parse.{text_items}
 use Rattle.al_parse_stmt.proofs.TextIs.{text_is, text_same, text_names, text_none}
-use Rattle.al_parse_stmt.proofs.TextSteady.{fault_error}
+use Rattle.al_parse_stmt.proofs.TextFault.{fault_error}
 use Rattle.al_parse_stmt.proofs.calls.parse.Goals as goal
 
 pub returns-in-Ok-names_of-clause-tree : goal.returns-in-Ok-names_of-clause-tree
