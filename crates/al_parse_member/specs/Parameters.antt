@@ -1,7 +1,7 @@
 -- The parser of parameters, on lists of tokens.
 --
 -- Loops make at most `turns` turns, and what is read has at most `depth` levels.
-use Rattle.std.specs.Prelude.{ℕ, zero, suc, max, true, if◌then◌else◌, List, [], ◌∷◌, ◌++◌, Option, Some, None}
+use Rattle.std.specs.Prelude.{ℕ, zero, suc, max, nat_lt, length, Bool, true, ◌&&◌, if◌then◌else◌, List, [], ◌∷◌, ◌++◌, Option, Some, None}
 use Rattle.al_base.specs.declared.place.Place.{Place}
 use Rattle.al_lex.specs.declared.kind.TokenKind.TheVariants as k
 use Rattle.al_lex.specs.declared.token.Token.{Token}
@@ -30,6 +30,10 @@ Parameters = List Parameter × ℕ
 -- the name of a type
 unfoldable pub type_name : List ℕ → Parser Token
 type_name types = looks (sees_type_name types) >>= (λ is. if is then take_if true else refuse)
+
+-- whether any name is a type's
+abbrev pub some_name : List ℕ → Bool
+some_name types = nat_lt 0 (length types)
 
 module _ (leaves : Leaves) (types : List ℕ) (turns depth : ℕ) where
   -- bound "]"
@@ -115,11 +119,12 @@ module _ (leaves : Leaves) (types : List ℕ) (turns depth : ℕ) where
     b ← base_within leaves types turns depth
     parameter_after at b
 
+  -- where no name is a type's, nothing goes on behind a star or a dot
   unfoldable pub parameter : Parser SizedParameter
   parameter = do
     is_name ← looks (sees_type_name types)
     next ← peek
-    if is_name then name_parameter else (if same_kind next k.Star then own_pointer else (if same_kind next k.Dot then own_value else based_parameter))
+    if is_name then name_parameter else (if same_kind next k.Star && some_name types then own_pointer else (if same_kind next k.Dot && some_name types then own_value else based_parameter))
 
   unfoldable pub parameters_from : ℕ → List Parameter → ℕ → Parser Parameters
   parameters_from zero xs h = refuse

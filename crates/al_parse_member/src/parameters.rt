@@ -323,9 +323,10 @@ impl<'t> Context<'t> {
         if sees_type_name(self.types, tokens) {
             return self.name_parameter(tokens);
         }
-        if tokens.next_is(TokenKind::Star) {
+        let names = 0 < self.types.len();
+        if tokens.next_is(TokenKind::Star) && names {
             self.own_pointer(tokens)
-        } else if tokens.next_is(TokenKind::Dot) {
+        } else if tokens.next_is(TokenKind::Dot) && names {
             self.own_value(tokens)
         } else {
             self.based_parameter(tokens)
