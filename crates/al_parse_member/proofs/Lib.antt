@@ -1,6 +1,7 @@
 pub mod Sound
 pub mod Steps
 pub mod InitializerIs
+pub mod ParameterLaw
 pub mod ParameterSound
 pub mod ParameterComplete
 pub mod MemberSound

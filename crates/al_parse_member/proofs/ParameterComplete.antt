@@ -1,15 +1,16 @@
 -- Parameters are read as what they are.
-use Rattle.std.proofs.Common.{◌≡◌, ℕ, zero, suc, pred, ◌<◌, ◌≤◌, max, Bool, true, false, List, [], ◌∷◌, ◌++◌, length, Option, Some, None, is_some, Ok, ◌⊎◌, inl, inr, refl, sym, ap, ap₂, ◌∙◌, subst, arith, append_assoc, append-nil, length-append}
+use Rattle.std.proofs.lemmas.Grind.{common_steps}
+use Rattle.std.proofs.Common.{◌≡◌, ℕ, zero, suc, pred, ◌+◌, ◌<◌, ◌≤◌, max, Bool, true, false, List, [], ◌∷◌, ◌++◌, length, Option, Some, None, is_some, Ok, ◌⊎◌, inl, inr, refl, sym, ap, ap₂, ◌∙◌, subst, arith, append_assoc, append-nil, length-append}
 use Rattle.al_base.specs.declared.place.Place.{Place}
 use Rattle.al_lex.specs.declared.kind.TokenKind.{TokenKind}
 use Rattle.al_lex.specs.declared.kind.TokenKind.TheVariants as k
 use Rattle.al_lex.specs.declared.token.Token.{Token}
 use Rattle.al_tree.specs.Words.{start, is_void, basic_type}
-use Rattle.al_tree.specs.Types.{Leaves, known, name_at, IsTypeName, IsOtherName, IsBoundPrim, IsBoundTerm, IsBound, IsBase, IsStarred, IsTypeTree, IsTypes, IsParts, AreStars}
+use Rattle.al_tree.specs.Types.{Leaves, known, name_at, IsTypeName, IsBoundPrim, IsBoundTerm, IsBound, IsBase, IsTypeTree, IsTypes, AreStars}
 use Rattle.al_tree.specs.Types as rules
 use Rattle.al_tree.specs.Items.{still_takes_bracket, is_void_alone, IsOpenBounds, IsParameter, IsParameters, IsParameterList}
 use Rattle.al_tree.specs.Items as items
-use Rattle.al_tree.specs.Reading.{Outcome, kind, name_number, same_kind, take_if}
+use Rattle.al_tree.specs.Reading.{Outcome, kind, name_number, same_kind}
 use Rattle.al_tree.specs.declared.type_tree.BasicType.{BasicType}
 use Rattle.al_tree.specs.declared.type_tree.BasicType.TheVariants as basic
 use Rattle.al_tree.specs.declared.type_tree.Bound.{Bound}
@@ -18,15 +19,18 @@ use Rattle.al_tree.specs.declared.type_tree.TypeTree.TheVariants as ty
 use Rattle.al_tree.specs.declared.item.Parameter.{Parameter}
 use Rattle.al_tree.specs.declared.item.Parameter.TheVariants as par
 use Rattle.al_tree.proofs.Law.{some_pred, start_of}
+use Rattle.al_parse_type.specs.declared.part.Part.TheVariants as part
 use Rattle.al_parse_type.specs.declared.part.ReadBase.{ReadBase}
-use Rattle.al_parse_type.specs.Parse.{sees_type_name, sees_other_name, sees_type, sized_base}
+use Rattle.al_parse_type.specs.Parse.{sees_type_name, sees_other_name, sees_type, begins_part, sized_base}
+use Rattle.al_parse_type.specs.Within.{inside_within}
 use Rattle.al_parse_type.proofs.BoundLaw.{kind_is}
-use Rattle.al_parse_type.proofs.BoundComplete.{less_pred, rest_short, tail_short, enclosed, kind_of, whole_bound, ends_bracket, whole_stars}
+use Rattle.al_parse_type.proofs.BoundComplete.{FollowBound, nat_lt_is, less_pred, rest_short, tail_short, enclosed, kind_of, whole_bound, ends_bracket, whole_stars}
 use Rattle.al_parse_type.proofs.TypeLaw.{base_long}
-use Rattle.al_parse_type.proofs.TypeComplete.{basic_not_name, basic_sees, name_sees, tuple_sees, chan_sees, number_sees, other_sees, number_level, name_level, Bare, base_sees}
+use Rattle.al_parse_type.proofs.TypeComplete.{FollowType, before_bracket, not_comma_bracket, basic_not_name, step_arguments, type_begins, bound_begins, bound_part, Bare, base_sees}
+use Rattle.al_parse_type.proofs.TypeWhole.{first_type, whole_types, inner_c}
 use Rattle.al_parse_type.proofs.BaseWhole.{EndsBase, no_bracket_ends, base_within_c}
 use Rattle.al_parse_member.specs.Parameters as params
-use Rattle.al_parse_member.specs.Parameters.{SizedParameter, Parameters, type_name, parameter_list}
+use Rattle.al_parse_member.specs.Parameters.{SizedParameter, Parameters, type_name, some_name, parameter_list}
 use Rattle.al_parse_member.proofs.Steps as step
 
 -- ---- single tokens
@@ -117,6 +121,10 @@ two_not_one t o ts q e = let l : suc (suc (length ts)) ≡ 1 = ap length e in om
 no_cons : {A : Type 0} (x : A) (xs : List A) → x ∷ xs ≡ [] → ⊥
 no_cons x xs e = cc
 
+some_names : (types : List ℕ) (n : ℕ) → known types n ≡ true → some_name types ≡ true
+some_names [] n e = absurd (let f : ⊥ = cc in f)
+some_names (m ∷ types) n e = grind (arith, common_steps)
+
 module _ (leaves : Leaves) (types : List ℕ) where
   -- ---- names of types
 
@@ -136,11 +144,6 @@ module _ (leaves : Leaves) (types : List ℕ) where
   unfolding sees_other_name
   no_other_name r f = rw f refl
 
-  -- the name of a type is read
-  pub type_name_c : (t : Token) (r : List Token) → IsTypeName leaves types t → type_name types (t ∷ r) ≡ Ok (t, r)
-  unfolding type_name take_if
-  type_name_c t r (rules.type_name c e) = let q : sees_type_name types (t ∷ r) ≡ true = name_seen t r c e in rw q refl
-
   basic_is_no_name : (t q : Token) (x : BasicType) → basic_type t.kind ≡ Some x → IsTypeName leaves types q → t ∷ [] ≡ q ∷ [] → ⊥
   unfolding same_kind
   basic_is_no_name t q x b (rules.type_name c e) h =
@@ -159,10 +162,6 @@ module _ (leaves : Leaves) (types : List ℕ) where
       go : (x : Bool) → same_kind (kind ts) kd ≡ x → x ≡ false
       go false e = refl
       go true e = let c : kind ts ≡ kd = kind_is (kind ts) kd e in absurd (let n : true ≡ false = sym h ∙ rw (c, b, tu, ch, na) refl in let f : ⊥ = cc in f)
-
-  type_no_paren : (ts : List Token) → sees_type types ts ≡ true → same_kind (kind ts) k.LeftParen ≡ false
-  unfolding same_kind
-  type_no_paren ts h = type_not ts k.LeftParen refl refl refl refl h
 
   -- a base type begins with no such token
   pub base_not : {takes : Bool} {u : List Token} {x : TypeTree} {h : ℕ} → IsBase leaves types true takes u x h → (r : List Token) (kd : TokenKind)
@@ -201,79 +200,6 @@ module _ (leaves : Leaves) (types : List ℕ) where
       go (inl e) = ap (λ l. same_kind (kind (l ++ r)) kd) e.0 ∙ g
       go (inr q) = kind_not (v ++ r) k.Star kd (q r) f
 
-  -- ---- what stands in brackets behind the name of a type
-
-  -- whether a type begins behind the parentheses that open
-  record Inside (m : ℕ) (ts : List Token) (b : Bool) : Type 0 where
-    left : List Token
-    is : params.type_inside_from types m ts ≡ Ok (b, left)
-
-  inside_at : (m : ℕ) (ts : List Token) (b : Bool) → 0 < m → same_kind (kind ts) k.LeftParen ≡ false → sees_type types ts ≡ b → Inside m ts b
-  inside_at m ts b some f e = record { left = ts; is = ap (λ i. params.type_inside_from types i ts) (some_pred m 0 some) ∙ step.inside_seen types (pred m) ts b f e }
-
-  inside_open : (m : ℕ) (o : Token) (ts : List Token) (b : Bool) → 0 < m → o.kind ≡ k.LeftParen → Inside (pred m) ts b → Inside m (o ∷ ts) b
-  inside_open m o ts b some c q = record { left = q.left; is = ap (λ i. params.type_inside_from types i (o ∷ ts)) (some_pred m 0 some) ∙ step.inside_paren types (pred m) o ts c ∙ q.is }
-
-  inside_type : (m : ℕ) (ts : List Token) → 0 < m → sees_type types ts ≡ true → Inside m ts true
-  inside_type m ts some h = inside_at m ts true some (type_no_paren ts h) h
-
-  mutual
-    types_inside : {bare : Bool} {u : List Token} {xs : List TypeTree} {h : ℕ} → IsTypes leaves types bare u xs h → (r : List Token) (m : ℕ) → length (u ++ r) < m → Inside m (u ++ r) true
-    types_inside (rules.one d) r m s = tree_inside d r m s
-    types_inside (rules.more t {u = u} {v = v} l c d) r m s =
-        let cut : (u ++ t ∷ v) ++ r ≡ u ++ (t ∷ (v ++ r)) = append_assoc u (t ∷ v) r in
-        subst (λ q. Inside m q true) (sym cut) (types_inside l (t ∷ (v ++ r)) m (omega (arith, s, ap length cut)))
-
-    tree_inside : {bare : Bool} {u : List Token} {x : TypeTree} {h : ℕ} → IsTypeTree leaves types bare u x h → (r : List Token) (m : ℕ) → length (u ++ r) < m → Inside m (u ++ r) true
-    tree_inside (rules.plain d) r m s = starred_inside d r m s
-    tree_inside (rules.array {u = u} {v = v} d b) r m s =
-        let cut : (u ++ v) ++ r ≡ u ++ (v ++ r) = append_assoc u v r in
-        subst (λ q. Inside m q true) (sym cut) (starred_inside d (v ++ r) m (omega (arith, s, ap length cut)))
-
-    starred_inside : {bare takes : Bool} {u : List Token} {x : TypeTree} {h : ℕ} → IsStarred leaves types bare takes u x h → (r : List Token) (m : ℕ) → length (u ++ r) < m → Inside m (u ++ r) true
-    starred_inside (rules.base d) r m s = base_inside d r m s
-    starred_inside (rules.star t {u = u} d c) r m s =
-        let cut : (u ++ t ∷ []) ++ r ≡ u ++ (t ∷ r) = append_assoc u (t ∷ []) r in
-        subst (λ q. Inside m q true) (sym cut) (starred_inside d (t ∷ r) m (omega (arith, s, ap length cut)))
-
-    base_inside : {bare takes : Bool} {u : List Token} {x : TypeTree} {h : ℕ} → IsBase leaves types bare takes u x h → (r : List Token) (m : ℕ) → length (u ++ r) < m → Inside m (u ++ r) true
-    base_inside (rules.basic t {x = x} c) r m s = inside_type m (t ∷ r) (omega (arith, s)) (basic_sees leaves types 0 t r x c)
-    base_inside (rules.named t (rules.type_name c e)) r m s = inside_type m (t ∷ r) (omega (arith, s)) (name_sees leaves types 0 t r c e)
-    base_inside (rules.instance t o c {u = u} (rules.type_name tc e) oc a ec) r m s = inside_type m (t ∷ o ∷ ((u ++ c ∷ []) ++ r)) (omega (arith, s)) (name_sees leaves types 0 t (o ∷ ((u ++ c ∷ []) ++ r)) tc e)
-    base_inside (rules.tuple w o c {u = u} wc oc a ec) r m s = inside_type m (w ∷ o ∷ ((u ++ c ∷ []) ++ r)) (omega (arith, s)) (tuple_sees leaves types 0 w (o ∷ ((u ++ c ∷ []) ++ r)) wc)
-    base_inside (rules.bare_tuple o c {u = u} oc a ec) r m s =
-        let cut : (u ++ c ∷ []) ++ r ≡ u ++ (c ∷ r) = append_assoc u (c ∷ []) r in
-        inside_open m o ((u ++ c ∷ []) ++ r) true (omega (arith, s)) oc
-        (subst (λ q. Inside (pred m) q true) (sym cut) (parts_inside a (c ∷ r) (pred m) (less_pred (length (u ++ (c ∷ r))) m (omega (arith, s, ap length cut)))))
-    base_inside (rules.channel w o c {u = u} wc oc a ec) r m s = inside_type m (w ∷ o ∷ ((u ++ c ∷ []) ++ r)) (omega (arith, s)) (chan_sees leaves types 0 w (o ∷ ((u ++ c ∷ []) ++ r)) wc)
-    base_inside (rules.buffered w o c p q {u = u} {v = v} wc oc a ec pc b qc) r m s = inside_type m (w ∷ o ∷ ((u ++ c ∷ p ∷ (v ++ q ∷ [])) ++ r)) (omega (arith, s)) (chan_sees leaves types 0 w (o ∷ ((u ++ c ∷ p ∷ (v ++ q ∷ [])) ++ r)) wc)
-
-    parts_inside : {bare : Bool} {u : List Token} {xs : List TypeTree} {h : ℕ} → IsParts leaves types bare u xs h → (r : List Token) (m : ℕ) → length (u ++ r) < m → Inside m (u ++ r) true
-    parts_inside (rules.parts t {u = u} {v = v} l c d) r m s =
-        let cut : (u ++ t ∷ v) ++ r ≡ u ++ (t ∷ (v ++ r)) = append_assoc u (t ∷ v) r in
-        subst (λ q. Inside m q true) (sym cut) (types_inside l (t ∷ (v ++ r)) m (omega (arith, s, ap length cut)))
-
-  mutual
-    prim_inside : {u : List Token} {x : Bound} {h : ℕ} → IsBoundPrim leaves types u x h → (r : List Token) (m : ℕ) → length (u ++ r) < m → Inside m (u ++ r) false
-    prim_inside (rules.number t c) r m s = inside_at m (t ∷ r) false (omega (arith, s)) (number_level leaves types 0 t r c) (number_sees leaves types 0 t r c)
-    prim_inside (rules.name t (rules.other_name c f)) r m s = inside_at m (t ∷ r) false (omega (arith, s)) (name_level leaves types 0 t r c) (other_sees leaves types 0 t r c f)
-    prim_inside (rules.paren o c {u = u} oc a ec) r m s =
-        let cut : (u ++ c ∷ []) ++ r ≡ u ++ (c ∷ r) = append_assoc u (c ∷ []) r in
-        inside_open m o ((u ++ c ∷ []) ++ r) false (omega (arith, s)) oc
-        (subst (λ q. Inside (pred m) q false) (sym cut) (bound_inside a (c ∷ r) (pred m) (less_pred (length (u ++ (c ∷ r))) m (omega (arith, s, ap length cut)))))
-
-    term_inside : {u : List Token} {x : Bound} {h : ℕ} → IsBoundTerm leaves types u x h → (r : List Token) (m : ℕ) → length (u ++ r) < m → Inside m (u ++ r) false
-    term_inside (rules.prim d) r m s = prim_inside d r m s
-    term_inside (rules.product t {u = u} {v = v} l c d) r m s =
-        let cut : (u ++ t ∷ v) ++ r ≡ u ++ (t ∷ (v ++ r)) = append_assoc u (t ∷ v) r in
-        subst (λ q. Inside m q false) (sym cut) (term_inside l (t ∷ (v ++ r)) m (omega (arith, s, ap length cut)))
-
-    bound_inside : {u : List Token} {x : Bound} {h : ℕ} → IsBound leaves types u x h → (r : List Token) (m : ℕ) → length (u ++ r) < m → Inside m (u ++ r) false
-    bound_inside (rules.term d) r m s = term_inside d r m s
-    bound_inside (rules.sum t {u = u} {v = v} l c d) r m s =
-        let cut : (u ++ t ∷ v) ++ r ≡ u ++ (t ∷ (v ++ r)) = append_assoc u (t ∷ v) r in
-        subst (λ q. Inside m q false) (sym cut) (bound_inside l (t ∷ (v ++ r)) m (omega (arith, s, ap length cut)))
-
   -- a bound begins with no bracket that closes
   prim_no_shut : {u : List Token} {x : Bound} {h : ℕ} → IsBoundPrim leaves types u x h → (r : List Token) → same_kind (kind (u ++ r)) k.RightBracket ≡ false
   prim_no_shut (rules.number t c) r = kind_not (t ∷ r) k.Number k.RightBracket (kind_of t r k.Number c) number_is_no_shut
@@ -288,49 +214,14 @@ module _ (leaves : Leaves) (types : List ℕ) where
   bound_no_shut (rules.term d) r = term_no_shut d r
   bound_no_shut (rules.sum t {u = u} {v = v} l c d) r = ap (λ q. same_kind (kind q) k.RightBracket) (append_assoc u (t ∷ v) r) ∙ bound_no_shut l (t ∷ (v ++ r))
 
-  -- a bracket that closes begins no type
-  shut_no_paren : (c : Token) (r : List Token) → c.kind ≡ k.RightBracket → same_kind (kind (c ∷ r)) k.LeftParen ≡ false
-  unfolding kind same_kind
-  shut_no_paren c r ec = rw ec refl
-
-  shut_no_type : (c : Token) (r : List Token) → c.kind ≡ k.RightBracket → sees_type types (c ∷ r) ≡ false
-  unfolding sees_type sees_type_name kind same_kind
-  shut_no_type c r ec = rw ec refl
-
-  -- the first pair of brackets of a list of bounds
-  record FirstOpen (u : List Token) : Type 0 where
-    opening : Token
-    behind : List Token
-    cut : u ≡ opening ∷ behind
-    opens : opening.kind ≡ k.LeftBracket
-    inside : (r : List Token) (m : ℕ) → length (behind ++ r) < m → Inside m (behind ++ r) false
-
-  open_first : (u : List Token) (o : Token) (w : List Token) {A : Type 0} → o.kind ≡ k.LeftBracket → ((r : List Token) (m : ℕ) → length (w ++ r) < m → Inside m (w ++ r) false) → ((u ≡ []) × A) ⊎ FirstOpen u → FirstOpen (u ++ o ∷ w)
-  open_first u o w oc f (inl e) = record { opening = o; behind = w; cut = ap (λ l. l ++ o ∷ w) e.0; opens = oc; inside = f }
-  open_first u o w oc f (inr q) = record {
-    opening = q.opening;
-    behind = q.behind ++ o ∷ w;
-    cut = ap (λ l. l ++ o ∷ w) q.cut;
-    opens = q.opens;
-    inside = λ r m s. let cut = append_assoc q.behind (o ∷ w) r in subst (λ l. Inside m l false) (sym cut) (q.inside (o ∷ (w ++ r)) m (omega (arith, s, ap length cut)));
-  }
-
-  first_open : {u : List Token} {xs : List (Option Bound)} {h : ℕ} → IsOpenBounds leaves types u xs h → ((u ≡ []) × (xs ≡ [])) ⊎ FirstOpen u
-  first_open items.none = inl (refl, refl)
-  first_open (items.missing o c {u = u} l oc ec) = inr (open_first u o (c ∷ []) oc (λ r m s. inside_at m (c ∷ r) false (omega (arith, s)) (shut_no_paren c r ec) (shut_no_type c r ec)) (first_open l))
-  first_open (items.more o c {u = u} {v = v} l oc b ec) = inr (open_first u o (v ++ c ∷ []) oc (λ r m s.
-      let cut : (v ++ c ∷ []) ++ r ≡ v ++ (c ∷ r) = append_assoc v (c ∷ []) r in
-      subst (λ l. Inside m l false) (sym cut) (bound_inside b (c ∷ r) m (omega (arith, s, ap length cut)))) (first_open l))
-
-  some_open : {u : List Token} {x : Option Bound} {xs : List (Option Bound)} {h : ℕ} → IsOpenBounds leaves types u (x ∷ xs) h → FirstOpen u
-  some_open {u} {x} {xs} {h} d = go (first_open d)
+  -- nor does a type
+  part_no_shut : (ts : List Token) → begins_part types true ts ≡ true → same_kind (kind ts) k.RightBracket ≡ false
+  unfolding begins_part sees_type sees_type_name same_kind
+  part_no_shut ts g = go (same_kind (kind ts) k.RightBracket) refl
     where
-      go : ((u ≡ []) × (x ∷ xs ≡ [])) ⊎ FirstOpen u → FirstOpen u
-      go (inl e) = absurd (no_cons x xs e.1)
-      go (inr q) = q
-
-  open_kind : {u : List Token} → FirstOpen u → (r : List Token) → kind (u ++ r) ≡ k.LeftBracket
-  open_kind q r = ap (λ l. kind (l ++ r)) q.cut ∙ kind_of q.opening (q.behind ++ r) k.LeftBracket q.opens
+      go : (b : Bool) → same_kind (kind ts) k.RightBracket ≡ b → b ≡ false
+      go false e = refl
+      go true e = let c : kind ts ≡ k.RightBracket = kind_is (kind ts) k.RightBracket e in absurd (let n : true ≡ false = sym g ∙ rw c refl in let f : ⊥ = cc in f)
 
 module _ (leaves : Leaves) (types : List ℕ) (F : ℕ) where
   -- ---- bounds of which some may be missing
@@ -369,6 +260,106 @@ module _ (leaves : Leaves) (types : List ℕ) (F : ℕ) where
       let q = open_c d n low r s in
       q.is ∙ ap (λ m. params.open_bounds_from leaves types F n m xs h r) (some_pred q.left (length r) q.enough) ∙ step.end_open leaves types F n (pred q.left) r xs h f
 
+  -- ---- what stands in brackets behind the name of a type
+
+  inside_type_c : {u : List Token} {x : TypeTree} {h : ℕ} → IsTypeTree leaves types true u x h → (n : ℕ) → h + 1 ≤ n → (r : List Token) → length (u ++ r) < F → FollowType r → inside_within leaves types F n (u ++ r) ≡ Ok ((part.Type x, h), r)
+  inside_type_c {u} {x} {h} a n low r s f = step.inside_part leaves types F n (u ++ r) (type_begins leaves types F a r) (nat_lt_is 0 n (omega (arith, low))) ∙ (inner_c leaves types F n).part_type true u x h a low r s f
+
+  inside_bound_c : {u : List Token} {x : Bound} {h : ℕ} → IsBound leaves types u x h → (n : ℕ) → h ≤ n → (r : List Token) → length (u ++ r) < F → FollowBound r → inside_within leaves types F n (u ++ r) ≡ Ok ((part.Bound x, h), r)
+  inside_bound_c {u} {x} {h} a n low r s f = go (begins_part types true (u ++ r)) refl
+    where
+      go : (b : Bool) → begins_part types true (u ++ r) ≡ b → inside_within leaves types F n (u ++ r) ≡ Ok ((part.Bound x, h), r)
+      go true e =
+          let p = bound_part leaves types F true (u ++ r) h (bound_begins leaves types F a r) e in
+          let room : 0 < n = omega (arith, p.1, low) in
+          step.inside_part leaves types F n (u ++ r) e (nat_lt_is 0 n room) ∙ (inner_c leaves types F n).part_bound u x h a room low r s f
+      go false e = step.inside_bound leaves types F n (u ++ r) r x h e (whole_bound leaves types F a n low r s f)
+
+  -- the first pair of brackets of a list of bounds
+  record FirstOpen (n : ℕ) (u : List Token) (xs : List (Option Bound)) (h : ℕ) (r : List Token) : Type 0 where
+    opening : Token
+    behind : List Token
+    back : List Token
+    first : Option Bound
+    low : ℕ
+    cut : u ≡ opening ∷ behind
+    opens : opening.kind ≡ k.LeftBracket
+    reads : (t : Token) → params.bracket leaves types F n t (behind ++ r) ≡ params.array_of leaves types F n t first low (back ++ r)
+    left : ℕ
+    enough : length r < left
+    loop : params.open_bounds_from leaves types F n F (first ∷ []) low (back ++ r) ≡ params.open_bounds_from leaves types F n left xs h r
+
+  record NoOpen (u : List Token) (xs : List (Option Bound)) (h : ℕ) : Type 0 where
+    tokens : u ≡ []
+    bounds : xs ≡ []
+    height : h ≡ 0
+
+  -- with one pair more
+  next_open : (n : ℕ) (u : List Token) (o : Token) (w r : List Token) (xs ys : List (Option Bound)) (x : Option Bound) (h i j : ℕ) → o.kind ≡ k.LeftBracket → ys ≡ xs ++ x ∷ [] → j ≡ max h i → length (w ++ r) < F
+      → ((t : Token) → params.bracket leaves types F n t (w ++ r) ≡ params.array_of leaves types F n t x i r)
+      → ((m : ℕ) → params.open_bounds_from leaves types F n (suc m) xs h (o ∷ (w ++ r)) ≡ params.open_bounds_from leaves types F n m ys j r)
+      → NoOpen u xs h ⊎ FirstOpen n u xs h (o ∷ (w ++ r)) → FirstOpen n (u ++ o ∷ w) ys j r
+  next_open n u o w r xs ys x h i j oc same high s one more (inl e) = record {
+    opening = o;
+    behind = w;
+    back = [];
+    first = x;
+    low = i;
+    cut = ap (λ l. l ++ o ∷ w) e.tokens;
+    opens = oc;
+    reads = one;
+    left = F;
+    enough = omega (arith, s, length-append w r);
+    loop = ap₂ (λ l m. params.open_bounds_from leaves types F n F l m r) (sym (same ∙ ap (λ l. l ++ x ∷ []) e.bounds)) (let z : i ≡ j = omega (arith, high, e.height) in z);
+  }
+  next_open n u o w r xs ys x h i j oc same high s one more (inr q) =
+      let behind_e : (q.behind ++ o ∷ w) ++ r ≡ q.behind ++ (o ∷ (w ++ r)) = append_assoc q.behind (o ∷ w) r in
+      let back_e : (q.back ++ o ∷ w) ++ r ≡ q.back ++ (o ∷ (w ++ r)) = append_assoc q.back (o ∷ w) r in
+      record {
+        opening = q.opening;
+        behind = q.behind ++ o ∷ w;
+        back = q.back ++ o ∷ w;
+        first = q.first;
+        low = q.low;
+        cut = ap (λ l. l ++ o ∷ w) q.cut;
+        opens = q.opens;
+        reads = λ t. ap (params.bracket leaves types F n t) behind_e ∙ q.reads t ∙ ap (params.array_of leaves types F n t q.first q.low) (sym back_e);
+        left = pred q.left;
+        enough = less_pred (length r) q.left (omega (arith, q.enough, length-append w r));
+        loop = ap (params.open_bounds_from leaves types F n F (q.first ∷ []) q.low) back_e ∙ q.loop
+            ∙ ap (λ m. params.open_bounds_from leaves types F n m xs h (o ∷ (w ++ r))) (some_pred q.left (length (o ∷ (w ++ r))) q.enough) ∙ more (pred q.left);
+      }
+
+  first_open : {u : List Token} {xs : List (Option Bound)} {h : ℕ} → IsOpenBounds leaves types u xs h → (n : ℕ) → h ≤ n → (r : List Token) → length (u ++ r) < F → NoOpen u xs h ⊎ FirstOpen n u xs h r
+  first_open items.none n low r s = inl (record { tokens = refl; bounds = refl; height = refl })
+  first_open (items.missing o c {u = u} {xs = xs} {h = h} l oc ec) n low r s =
+      let cut : (u ++ o ∷ c ∷ []) ++ r ≡ u ++ (o ∷ c ∷ r) = append_assoc u (o ∷ c ∷ []) r in
+      let s1 : length (u ++ (o ∷ c ∷ r)) < F = omega (arith, s, ap length cut) in
+      inr (next_open n u o (c ∷ []) r xs (xs ++ None ∷ []) None h 0 h oc refl (let z : h ≡ max h 0 = omega arith in z) (tail_short u o (c ∷ r) F s1)
+      (λ t. step.step_no_bound leaves types F n t c r ec) (λ m. step.step_missing leaves types F n m o c r xs h oc ec) (first_open l n low (o ∷ c ∷ r) s1))
+  first_open (items.more o c {u = u} {v = v} {xs = xs} {x = x} {h = h} {i = i} l oc b ec) n low r s =
+      let cut : (u ++ o ∷ (v ++ c ∷ [])) ++ r ≡ u ++ (o ∷ ((v ++ c ∷ []) ++ r)) = append_assoc u (o ∷ (v ++ c ∷ [])) r in
+      let closed : (v ++ c ∷ []) ++ r ≡ v ++ (c ∷ r) = append_assoc v (c ∷ []) r in
+      let s1 : length (u ++ (o ∷ ((v ++ c ∷ []) ++ r))) < F = omega (arith, s, ap length cut) in
+      let s2 : length ((v ++ c ∷ []) ++ r) < F = tail_short u o ((v ++ c ∷ []) ++ r) F s1 in
+      let s3 : length (v ++ (c ∷ r)) < F = omega (arith, s2, ap length closed) in
+      let ends = ends_bracket leaves types F c r ec in
+      let no_shut = bound_no_shut leaves types b (c ∷ r) in
+      inr (next_open n u o (v ++ c ∷ []) r xs (xs ++ Some x ∷ []) (Some x) h i (max h i) oc refl refl s2
+      (λ t. ap (params.bracket leaves types F n t) closed ∙ step.step_bound leaves types F n t c (v ++ (c ∷ r)) r x i no_shut (inside_bound_c b n (omega (arith, low)) (c ∷ r) s3 ends) ec)
+      (λ m. ap (λ q. params.open_bounds_from leaves types F n (suc m) xs h (o ∷ q)) closed ∙ step.step_open leaves types F n m o c (v ++ (c ∷ r)) r xs h x i oc no_shut (whole_bound leaves types F b n (omega (arith, low)) (c ∷ r) s3 ends) ec)
+      (first_open l n (omega (arith, low)) (o ∷ ((v ++ c ∷ []) ++ r)) s1))
+
+  some_open : {u : List Token} {x : Option Bound} {xs : List (Option Bound)} {h : ℕ} → IsOpenBounds leaves types u (x ∷ xs) h → (n : ℕ) → h ≤ n → (r : List Token) → length (u ++ r) < F → FirstOpen n u (x ∷ xs) h r
+  some_open {u} {x} {xs} {h} d n low r s = go (first_open d n low r s)
+    where
+      go : NoOpen u (x ∷ xs) h ⊎ FirstOpen n u (x ∷ xs) h r → FirstOpen n u (x ∷ xs) h r
+      go (inl e) = absurd (no_cons x xs e.bounds)
+      go (inr q) = q
+
+  open_kind : {n : ℕ} {u : List Token} {xs : List (Option Bound)} {h : ℕ} {r : List Token} → FirstOpen n u xs h r → kind (u ++ r) ≡ k.LeftBracket
+  open_kind {r = r} q = ap (λ l. kind (l ++ r)) q.cut ∙ kind_of q.opening (q.behind ++ r) k.LeftBracket q.opens
+
   -- ---- base types by what they are where an array might begin
 
   record OneName (u : List Token) (x : TypeTree) (h : ℕ) : Type 0 where
@@ -379,15 +370,15 @@ module _ (leaves : Leaves) (types : List ℕ) (F : ℕ) where
     tree : x ≡ ty.Named token.place token.name []
     flat : h ≡ 0
 
-  record NoArray (u : List Token) : Type 0 where
-    unseen : (r : List Token) → length (u ++ r) < F → params.sees_array types F (u ++ r) ≡ false
-    many : (t : Token) → IsTypeName leaves types t → u ≡ t ∷ [] → ⊥
-
-  by_word : (w o : Token) (ts : List Token) (kd : TokenKind) → w.kind ≡ kd → same_kind kd k.Name ≡ false → NoArray (w ∷ o ∷ ts)
-  by_word w o ts kd c f = record {
-    unseen = λ r s. step.no_array_name types F (w ∷ o ∷ (ts ++ r)) (name_unseen leaves types w (o ∷ (ts ++ r)) kd c f);
-    many = λ t d e. two_not_one w o ts t e;
-  }
+  -- the name of a type alone, or more or other tokens than that
+  base_shape : {takes : Bool} {u : List Token} {x : TypeTree} {h : ℕ} → IsBase leaves types true takes u x h → OneName u x h ⊎ ((t : Token) → IsTypeName leaves types t → u ≡ t ∷ [] → ⊥)
+  base_shape (rules.basic t {x = x} c) = inr (λ q d e. basic_is_no_name leaves types t q x c d e)
+  base_shape (rules.named t (rules.type_name c e)) = inl (record { token = t; names = c; known_is = e; cut = refl; tree = refl; flat = refl })
+  base_shape (rules.instance t o c {u = u} tn oc a ec) = inr (λ q d e. two_not_one t o (u ++ c ∷ []) q e)
+  base_shape (rules.tuple w o c {u = u} wc oc a ec) = inr (λ q d e. two_not_one w o (u ++ c ∷ []) q e)
+  base_shape (rules.bare_tuple o c {u = u} oc a ec) = inr (λ q d e. let l = ap length e in omega (arith, l, length-append u (c ∷ [])))
+  base_shape (rules.channel w o c {u = u} wc oc a ec) = inr (λ q d e. two_not_one w o (u ++ c ∷ []) q e)
+  base_shape (rules.buffered w o c p q {u = u} {v = v} wc oc a ec pc b qc) = inr (λ t d e. two_not_one w o (u ++ c ∷ p ∷ (v ++ q ∷ [])) t e)
 
   tuple_is_no_name : same_kind k.Tuple k.Name ≡ false
   unfolding same_kind
@@ -401,37 +392,43 @@ module _ (leaves : Leaves) (types : List ℕ) (F : ℕ) where
   unfolding same_kind
   open_is_no_name = refl
 
-  bare_shape : (o c : Token) (u : List Token) → o.kind ≡ k.LeftParen → NoArray (o ∷ (u ++ c ∷ []))
-  bare_shape o c [] oc = by_word o c [] k.LeftParen oc open_is_no_name
-  bare_shape o c (t ∷ u) oc = by_word o t (u ++ c ∷ []) k.LeftParen oc open_is_no_name
-
-  base_shape : {takes : Bool} {u : List Token} {x : TypeTree} {h : ℕ} → IsBase leaves types true takes u x h → OneName u x h ⊎ NoArray u
-  base_shape (rules.basic t {x = x} c) = inr (record { unseen = λ r s. step.no_array_name types F (t ∷ r) (basic_unseen leaves types t r x c); many = λ q d e. basic_is_no_name leaves types t q x c d e })
-  base_shape (rules.named t (rules.type_name c e)) = inl (record { token = t; names = c; known_is = e; cut = refl; tree = refl; flat = refl })
-  base_shape (rules.instance t o c {u = u} (rules.type_name tc e) oc a ec) = inr (record {
-    unseen = λ r s.
-        let cut : (u ++ c ∷ []) ++ r ≡ u ++ (c ∷ r) = append_assoc u (c ∷ []) r in
-        let q = types_inside leaves types a (c ∷ r) F (omega (arith, s, ap length cut)) in
-        step.array_inside types F t o ((u ++ c ∷ []) ++ r) q.left true (name_seen leaves types t (o ∷ ((u ++ c ∷ []) ++ r)) tc e) oc (ap (params.type_inside_from types F) cut ∙ q.is);
-    many = λ q d h. two_not_one t o (u ++ c ∷ []) q h;
-  })
-  base_shape (rules.tuple w o c {u = u} wc oc a ec) = inr (by_word w o (u ++ c ∷ []) k.Tuple wc tuple_is_no_name)
-  base_shape (rules.bare_tuple o c {u = u} oc a ec) = inr (bare_shape o c u oc)
-  base_shape (rules.channel w o c {u = u} wc oc a ec) = inr (by_word w o (u ++ c ∷ []) k.Chan wc chan_is_no_name)
-  base_shape (rules.buffered w o c p q {u = u} {v = v} wc oc a ec pc b qc) = inr (by_word w o (u ++ c ∷ p ∷ (v ++ q ∷ [])) k.Chan wc chan_is_no_name)
-
-  -- no array begins where no bracket stands behind a base type
-  no_array_c : {takes : Bool} {u : List Token} {x : TypeTree} {h : ℕ} → IsBase leaves types true takes u x h → (ts : List Token) → length (u ++ ts) < F → same_kind (kind ts) k.LeftBracket ≡ false → params.sees_array types F (u ++ ts) ≡ false
-  no_array_c {u = u} {x = x} {h = h} d ts s f = go (base_shape d)
-    where
-      go : OneName u x h ⊎ NoArray u → params.sees_array types F (u ++ ts) ≡ false
-      go (inl q) = ap (λ l. params.sees_array types F (l ++ ts)) q.cut ∙ step.no_array_bracket types F q.token ts (name_seen leaves types q.token ts q.names q.known_is) f
-      go (inr q) = q.unseen ts s
-
   -- ---- parameters, by how they begin
 
   abbrev base_of : TypeTree → ℕ → Bool → ReadBase
   base_of x h takes = record { tree = x; height = h; takes_bracket = takes }
+
+  -- a base type that begins with no type's name
+  other_c : {takes : Bool} {u : List Token} {x : TypeTree} {h : ℕ} → IsBase leaves types true takes u x h → (n : ℕ) → h ≤ n → (r : List Token) → length (u ++ r) < F → EndsBase leaves types F takes u r → sees_type_name types (u ++ r) ≡ false
+      → params.parameter leaves types F n (u ++ r) ≡ params.parameter_after leaves types F n (start u) (base_of x h takes) r
+  other_c {takes} {u} {x} {h} d n low r s f g =
+      step.step_based leaves types F n (u ++ r) r (base_of x h takes) g (base_no_star leaves types d r) (base_no_dot leaves types d r) (base_within_c leaves types F d n low r s f)
+      ∙ ap (λ p. params.parameter_after leaves types F n p (base_of x h takes) r) (start_of u r (base_long leaves types d))
+
+  instance_c : (n : ℕ) (t o c : Token) (u r : List Token) (xs : List TypeTree) (h : ℕ) → sees_type_name types (t ∷ o ∷ (u ++ (c ∷ r))) ≡ true → o.kind ≡ k.LeftBracket → IsTypes leaves types true u xs h → c.kind ≡ k.RightBracket → h + 1 ≤ n → length (u ++ (c ∷ r)) < F
+      → params.parameter leaves types F n (t ∷ o ∷ (u ++ (c ∷ r))) ≡ params.parameter_after leaves types F n t.place (sized_base (ty.Named t.place t.name xs) (h + 1)) r
+  instance_c n t o c u r xs h seen oc a ec low s =
+      let inner = inner_c leaves types F n in
+      let q = first_type leaves types F n inner a low (c ∷ r) s (before_bracket c r ec) in
+      let cut : u ++ (c ∷ r) ≡ q.front ++ (q.back ++ (c ∷ r)) = ap (λ l. l ++ (c ∷ r)) q.cut ∙ append_assoc q.front q.back (c ∷ r) in
+      let short : length (q.front ++ (q.back ++ (c ∷ r))) < F = omega (arith, s, ap length cut) in
+      step.step_bracket leaves types F n t o (u ++ (c ∷ r)) seen oc
+      ∙ ap (params.bracket leaves types F n t) cut
+      ∙ step.step_arguments leaves types F n t (q.front ++ (q.back ++ (c ∷ r))) (q.back ++ (c ∷ r)) r q.first q.low (sized_base (ty.Named t.place t.name xs) (h + 1)) (part_no_shut leaves types (q.front ++ (q.back ++ (c ∷ r))) (type_begins leaves types F q.is (q.back ++ (c ∷ r))))
+      (inside_type_c q.is n (omega (arith, q.lower, low)) (q.back ++ (c ∷ r)) short q.after)
+      (step_arguments leaves types F n true t c (q.back ++ (c ∷ r)) r (q.first, q.low) xs h (whole_types leaves types F n inner q (not_comma_bracket c r ec)) ec)
+
+  base_c : {takes : Bool} {u : List Token} {x : TypeTree} {h : ℕ} → IsBase leaves types true takes u x h → (n : ℕ) → h ≤ n → (r : List Token) → length (u ++ r) < F → EndsBase leaves types F takes u r
+      → params.parameter leaves types F n (u ++ r) ≡ params.parameter_after leaves types F n (start u) (base_of x h takes) r
+  base_c (rules.basic t {x = x} c) n low r s f = other_c (rules.basic t c) n low r s f (basic_unseen leaves types t r x c)
+  base_c (rules.named t (rules.type_name c e)) n low r s f = step.step_name leaves types F n t r (name_seen leaves types t r c e) (f.name t (rules.type_name c e) refl)
+  base_c (rules.instance t o c {u = u} {xs = xs} {h = h} (rules.type_name tc e) oc a ec) n low r s f =
+      let cut : (u ++ c ∷ []) ++ r ≡ u ++ (c ∷ r) = append_assoc u (c ∷ []) r in
+      ap (λ l. params.parameter leaves types F n (t ∷ o ∷ l)) cut ∙ instance_c n t o c u r xs h (name_seen leaves types t (o ∷ (u ++ (c ∷ r))) tc e) oc a ec low (omega (arith, s, ap length cut))
+  base_c (rules.tuple w o c {u = u} wc oc a ec) n low r s f = other_c (rules.tuple w o c wc oc a ec) n low r s f (name_unseen leaves types w (o ∷ ((u ++ c ∷ []) ++ r)) k.Tuple wc tuple_is_no_name)
+  base_c (rules.bare_tuple o c {u = u} oc a ec) n low r s f = other_c (rules.bare_tuple o c oc a ec) n low r s f (name_unseen leaves types o ((u ++ c ∷ []) ++ r) k.LeftParen oc open_is_no_name)
+  base_c (rules.channel w o c {u = u} wc oc a ec) n low r s f = other_c (rules.channel w o c wc oc a ec) n low r s f (name_unseen leaves types w (o ∷ ((u ++ c ∷ []) ++ r)) k.Chan wc chan_is_no_name)
+  base_c (rules.buffered w o c p q {u = u} {v = v} wc oc a ec pc b qc) n low r s f =
+      other_c (rules.buffered w o c p q wc oc a ec pc b qc) n low r s f (name_unseen leaves types w (o ∷ ((u ++ c ∷ p ∷ (v ++ q ∷ [])) ++ r)) k.Chan wc chan_is_no_name)
 
   -- one that begins with a base type
   record Based (n : ℕ) (u : List Token) (x : Parameter) (h : ℕ) (r : List Token) : Type 0 where
@@ -444,7 +441,6 @@ module _ (leaves : Leaves) (types : List ℕ) (F : ℕ) where
     lower : low ≤ h
     cut : u ≡ front ++ back
     ends : EndsBase leaves types F takes front (back ++ r)
-    no_array : params.sees_array types F (front ++ (back ++ r)) ≡ false
     after : params.parameter_after leaves types F n (start front) (base_of tree low takes) (back ++ r) ≡ Ok ((x, h), r)
     next : (back ≡ []) ⊎ (same_kind (kind (back ++ r)) k.RightParen ≡ false)
 
@@ -479,7 +475,6 @@ module _ (leaves : Leaves) (types : List ℕ) (F : ℕ) where
         lower = omega arith;
         cut = append_assoc u v (t ∷ q);
         ends = subst (λ l. EndsBase leaves types F takes u l) (sym back_e) (no_bracket_ends leaves types F takes u (v ++ (t ∷ (q ++ r))) no_bracket);
-        no_array = ap (λ l. params.sees_array types F (u ++ l)) back_e ∙ no_array_c d (v ++ (t ∷ (q ++ r))) s no_bracket;
         after = ap (params.parameter_after leaves types F n (start u) (base_of x h takes)) back_e
             ∙ step.step_named leaves types F n (start u) (base_of x h takes) t (v ++ (t ∷ (q ++ r))) (q ++ r) r m (bounds, i)
             (whole_stars leaves types F a (t ∷ (q ++ r)) s1 (kind_not (t ∷ (q ++ r)) k.Name k.Star name_next name_is_no_star)) nc f (whole_open b n (omega (arith, low)) r s2 g.bracket);
@@ -515,19 +510,18 @@ module _ (leaves : Leaves) (types : List ℕ) (F : ℕ) where
         lower = omega arith;
         cut = refl;
         ends = no_bracket_ends leaves types F takes u (v ++ r) no_bracket;
-        no_array = no_array_c d (v ++ r) s no_bracket;
         after = bare_after takes u x h a n r (rest_short u (v ++ r) F s) g (still_takes_bracket takes m) refl;
         next = stars_next a r;
       }
 
   -- with bounds and without a name, behind a base type that is read as such
   array_based : {takes : Bool} {u v q : List Token} {x : TypeTree} {m h i : ℕ} {bound : Option Bound} {bounds : List (Option Bound)} → IsBase leaves types true takes u x h → AreStars leaves types v m → still_takes_bracket takes m ≡ false → IsOpenBounds leaves types q (bound ∷ bounds) i
-      → (n : ℕ) → max h i ≤ n → (r : List Token) → length (u ++ (v ++ (q ++ r))) < F → FollowParameter r → EndsBase leaves types F takes u (v ++ (q ++ r)) → params.sees_array types F (u ++ (v ++ (q ++ r))) ≡ false
+      → (n : ℕ) → max h i ≤ n → (r : List Token) → length (u ++ (v ++ (q ++ r))) < F → FollowParameter r → EndsBase leaves types F takes u (v ++ (q ++ r))
       → Based n ((u ++ v) ++ q) (par.Plain (start u) x m None (bound ∷ bounds)) (max h i) r
-  array_based {takes} {u} {v} {q} {x} {m} {h} {i} {bound} {bounds} d a f b n low r s g ends no_array =
+  array_based {takes} {u} {v} {q} {x} {m} {h} {i} {bound} {bounds} d a f b n low r s g ends =
       let back_e : (v ++ q) ++ r ≡ v ++ (q ++ r) = append_assoc v q r in
-      let bracket : kind (q ++ r) ≡ k.LeftBracket = open_kind leaves types (some_open leaves types b) r in
       let s1 : length (v ++ (q ++ r)) < F = rest_short u (v ++ (q ++ r)) F s in
+      let bracket : kind (q ++ r) ≡ k.LeftBracket = open_kind (some_open b n (omega (arith, low)) r (rest_short v (q ++ r) F s1)) in
       record {
         front = u;
         back = v ++ q;
@@ -538,7 +532,6 @@ module _ (leaves : Leaves) (types : List ℕ) (F : ℕ) where
         lower = omega arith;
         cut = append_assoc u v q;
         ends = subst (λ l. EndsBase leaves types F takes u l) (sym back_e) ends;
-        no_array = ap (λ l. params.sees_array types F (u ++ l)) back_e ∙ no_array;
         after = ap (params.parameter_after leaves types F n (start u) (base_of x h takes)) back_e
             ∙ step.step_unnamed leaves types F n (start u) (base_of x h takes) (v ++ (q ++ r)) (q ++ r) r m (bound ∷ bounds, i)
             (whole_stars leaves types F a (q ++ r) s1 (kind_not (q ++ r) k.LeftBracket k.Star bracket bracket_is_no_star)) (no_other_name leaves types (q ++ r) (kind_not (q ++ r) k.LeftBracket k.Name bracket bracket_is_no_name)) f
@@ -553,21 +546,21 @@ module _ (leaves : Leaves) (types : List ℕ) (F : ℕ) where
   unfolding same_kind
   name_is_no_void = refl
 
-  -- an array of a named type, which is seen by what stands in its brackets
+  -- an array of a named type, whose first brackets are read behind that name
   array_direct : {u q : List Token} {x : TypeTree} {h i : ℕ} {bound : Option Bound} {bounds : List (Option Bound)} → OneName u x h → IsOpenBounds leaves types q (bound ∷ bounds) i
       → (n : ℕ) → i ≤ n → (r : List Token) → length (u ++ (q ++ r)) < F → FollowParameter r → Direct n (u ++ q) (par.Plain (start u) x 0 None (bound ∷ bounds)) (max h i) r
   array_direct {u} {q} {x} {h} {i} {bound} {bounds} o b n low r s g =
-      let p = some_open leaves types b in
       let t = o.token in
       let all : u ++ q ≡ t ∷ q = ap (λ l. l ++ q) o.cut in
-      let cut : q ++ r ≡ p.opening ∷ (p.behind ++ r) = ap (λ l. l ++ r) p.cut in
       let size : length (u ++ (q ++ r)) ≡ suc (length (q ++ r)) = ap (λ l. length (l ++ (q ++ r))) o.cut in
-      let s1 : length (q ++ r) < F = omega (arith, s, size) in
-      let inside = p.inside r F (omega (arith, s1, ap length cut)) in
-      let seen : params.sees_array types F (t ∷ (q ++ r)) ≡ true =
-      ap (λ l. params.sees_array types F (t ∷ l)) cut
-      ∙ step.array_inside types F t p.opening (p.behind ++ r) inside.left false (name_seen leaves types t (p.opening ∷ (p.behind ++ r)) o.names o.known_is) p.opens inside.is in
-      let read = step.step_array leaves types F n t (q ++ r) r (bound ∷ bounds, i) seen (whole_open b n low r s1 g.bracket) in
+      let p = some_open b n low r (omega (arith, s, size)) in
+      let cut : q ++ r ≡ p.opening ∷ (p.behind ++ r) = ap (λ l. l ++ r) p.cut in
+      let read =
+      ap (λ l. params.parameter leaves types F n (t ∷ l)) cut
+      ∙ step.step_bracket leaves types F n t p.opening (p.behind ++ r) (name_seen leaves types t (p.opening ∷ (p.behind ++ r)) o.names o.known_is) p.opens
+      ∙ p.reads t
+      ∙ step.step_array leaves types F n t (p.back ++ r) r p.first p.low (bound ∷ bounds, i)
+      (p.loop ∙ ap (λ m. params.open_bounds_from leaves types F n m (bound ∷ bounds) i r) (some_pred p.left (length r) p.enough) ∙ step.end_open leaves types F n (pred p.left) r (bound ∷ bounds) i g.bracket) in
       let place : t.place ≡ start u = sym (ap start o.cut) in
       let high : i ≡ max h i = omega (arith, o.flat) in
       subst (λ l. Direct n l (par.Plain (start u) x 0 None (bound ∷ bounds)) (max h i) r) (sym all)
@@ -583,19 +576,19 @@ module _ (leaves : Leaves) (types : List ℕ) (F : ℕ) where
       → Based n ((u ++ v) ++ q) (par.Plain (start u) x m None (bound ∷ bounds)) (max h i) r ⊎ Direct n ((u ++ v) ++ q) (par.Plain (start u) x m None (bound ∷ bounds)) (max h i) r
   array_c {takes} {u} {v} {q} {x} {m} {h} {i} {bound} {bounds} d a f b n low r s g = go (first_star leaves types a)
     where
-      alone : v ≡ [] → m ≡ 0 → OneName u x h ⊎ NoArray u → Based n ((u ++ v) ++ q) (par.Plain (start u) x m None (bound ∷ bounds)) (max h i) r ⊎ Direct n ((u ++ v) ++ q) (par.Plain (start u) x m None (bound ∷ bounds)) (max h i) r
+      alone : v ≡ [] → m ≡ 0 → OneName u x h ⊎ ((t : Token) → IsTypeName leaves types t → u ≡ t ∷ [] → ⊥) → Based n ((u ++ v) ++ q) (par.Plain (start u) x m None (bound ∷ bounds)) (max h i) r ⊎ Direct n ((u ++ v) ++ q) (par.Plain (start u) x m None (bound ∷ bounds)) (max h i) r
       alone e z (inl o) =
           let size : length (u ++ (v ++ (q ++ r))) ≡ length (u ++ (q ++ r)) = ap (λ l. length (u ++ (l ++ (q ++ r)))) e in
           let all : (u ++ v) ++ q ≡ u ++ q = ap (λ l. (u ++ l) ++ q) e ∙ ap (λ l. l ++ q) (append-nil u) in
           inr (subst (λ j. Direct n ((u ++ v) ++ q) (par.Plain (start u) x j None (bound ∷ bounds)) (max h i) r) (sym z)
           (subst (λ l. Direct n l (par.Plain (start u) x 0 None (bound ∷ bounds)) (max h i) r) (sym all) (array_direct o b n (omega (arith, low)) r (omega (arith, s, size)) g)))
-      alone e z (inr p) = inl (array_based d a f b n low r s g (record { channel = λ t. absurd (taken_first takes m z f t); name = λ t c w. absurd (p.many t c w) }) (p.unseen (v ++ (q ++ r)) s))
+      alone e z (inr p) = inl (array_based d a f b n low r s g (record { channel = λ t. absurd (taken_first takes m z f t); name = λ t c w. absurd (p t c w) }))
 
       go : ((v ≡ []) × (m ≡ 0)) ⊎ ((r : List Token) → kind (v ++ r) ≡ k.Star) → Based n ((u ++ v) ++ q) (par.Plain (start u) x m None (bound ∷ bounds)) (max h i) r ⊎ Direct n ((u ++ v) ++ q) (par.Plain (start u) x m None (bound ∷ bounds)) (max h i) r
       go (inl e) = alone e.0 e.1 (base_shape d)
       go (inr p) =
           let no_bracket : same_kind (kind (v ++ (q ++ r))) k.LeftBracket ≡ false = kind_not (v ++ (q ++ r)) k.Star k.LeftBracket (p (q ++ r)) star_is_no_bracket in
-          inl (array_based d a f b n low r s g (no_bracket_ends leaves types F takes u (v ++ (q ++ r)) no_bracket) (no_array_c d (v ++ (q ++ r)) s no_bracket))
+          inl (array_based d a f b n low r s g (no_bracket_ends leaves types F takes u (v ++ (q ++ r)) no_bracket))
 
   split : {u : List Token} {x : Parameter} {h : ℕ} → IsParameter leaves types u x h → (n : ℕ) → h ≤ n → (r : List Token) → length (u ++ r) < F → FollowParameter r → Based n u x h r ⊎ Direct n u x h r
   unfolding same_kind
@@ -607,18 +600,15 @@ module _ (leaves : Leaves) (types : List ℕ) (F : ℕ) where
       let cut : ((u ++ v) ++ q) ++ r ≡ u ++ (v ++ (q ++ r)) = append_assoc (u ++ v) q r ∙ append_assoc u v (q ++ r) in
       array_c d a f b n low r (omega (arith, s, ap length cut)) g
   split (items.own_pointer w t wc (rules.type_name tc e)) n low r s g = inr (direct_at n w (t ∷ []) (par.OwnPointer w.place t.name) 0 r k.Star wc refl refl
-      (step.step_own_pointer leaves types F n w t r (step.no_array_name types F (w ∷ t ∷ r) (name_unseen leaves types w (t ∷ r) k.Star wc refl)) wc (name_seen leaves types t r tc e)))
+      (step.step_own_pointer leaves types F n w t r (name_unseen leaves types w (t ∷ r) k.Star wc refl) wc (some_names types t.name e) (name_seen leaves types t r tc e)))
   split (items.own_value w t wc (rules.type_name tc e)) n low r s g = inr (direct_at n w (t ∷ []) (par.OwnValue w.place t.name) 0 r k.Dot wc refl refl
-      (step.step_own_value leaves types F n w t r (step.no_array_name types F (w ∷ t ∷ r) (name_unseen leaves types w (t ∷ r) k.Dot wc refl)) wc (name_seen leaves types t r tc e)))
+      (step.step_own_value leaves types F n w t r (name_unseen leaves types w (t ∷ r) k.Dot wc refl) wc (some_names types t.name e) (name_seen leaves types t r tc e)))
 
   based_c : (n : ℕ) (u : List Token) (x : Parameter) (h : ℕ) (r : List Token) → h ≤ n → length (u ++ r) < F → Based n u x h r → params.parameter leaves types F n (u ++ r) ≡ Ok ((x, h), r)
   based_c n u x h r low s q =
       let cut : u ++ r ≡ q.front ++ (q.back ++ r) = ap (λ l. l ++ r) q.cut ∙ append_assoc q.front q.back r in
       let s1 : length (q.front ++ (q.back ++ r)) < F = omega (arith, s, ap length cut) in
-      let place : start (q.front ++ (q.back ++ r)) ≡ start q.front = start_of q.front (q.back ++ r) (base_long leaves types q.is) in
-      ap (params.parameter leaves types F n) cut
-      ∙ step.step_based leaves types F n (q.front ++ (q.back ++ r)) (q.back ++ r) (base_of q.tree q.low q.takes) q.no_array (base_no_star leaves types q.is (q.back ++ r)) (base_no_dot leaves types q.is (q.back ++ r)) (base_within_c leaves types F q.is n (omega (arith, q.lower, low)) (q.back ++ r) s1 q.ends)
-      ∙ ap (λ p. params.parameter_after leaves types F n p (base_of q.tree q.low q.takes) (q.back ++ r)) place ∙ q.after
+      ap (params.parameter leaves types F n) cut ∙ base_c q.is n (omega (arith, q.lower, low)) (q.back ++ r) s1 q.ends ∙ q.after
 
   pub parameter_c : {u : List Token} {x : Parameter} {h : ℕ} → IsParameter leaves types u x h → (n : ℕ) → h ≤ n → (r : List Token) → length (u ++ r) < F → FollowParameter r → params.parameter leaves types F n (u ++ r) ≡ Ok ((x, h), r)
   parameter_c {u} {x} {h} d n low r s f = go (split d n low r s f)

@@ -230,7 +230,7 @@ law_steady {A} w w2 p Q ab r l = record { run = λ ts g s. by ts (p w ts) (l.run
     by ts (Err (Stuck (suc n))) v = stuck ts n v
     by ts (Err (Deep n)) v = tt
 
--- ---- another parser that reads the same from such lists on
+-- ---- how much is left
 
 -- how much is left at least
 abbrev pub Past : {A : Type 0} → ℕ → Outcome A → Type 0
@@ -252,29 +252,3 @@ behind (t ∷ front) ts (s ∷ used) r e h =
     let q = behind front ts used r (let z : front ++ ts ≡ used ++ r = cc in z) h in
     let first : s ≡ t = cc in
     record { more = q.more; is = ap (λ x. x ∷ used) first ∙ ap (λ l. t ∷ l) q.is; cut = q.cut }
-
-module _ {A : Type 0} (p q : Parser A) (front ts : List Token) (same : (ts' : List Token) → head ts' ≡ head ts → q (front ++ ts') ≡ p (front ++ ts')) where
-  pub settled : (o : Outcome A) → Past (length ts) o → Keeps p (front ++ ts) o → Keeps q (front ++ ts) o
-  settled (Ok x) h v = let b = behind front ts v.used x.1 v.cut h in record {
-    used = v.used;
-    cut = v.cut;
-    again = λ r' e.
-        ap q (ap (λ l. l ++ r') b.is ∙ append_assoc front b.more r')
-        ∙ same (b.more ++ r') (same_head b.more x.1 r' e ∙ ap head (sym b.cut))
-        ∙ sym (ap p (ap (λ l. l ++ r') b.is ∙ append_assoc front b.more r'))
-        ∙ v.again r' e;
-  }
-  settled (Err NoMemory) h v = tt
-  settled (Err (Stuck zero)) h v = subst IsErr (sym (same ts refl)) v
-  settled (Err (Stuck (suc n))) h v = let b = behind front ts v.used (v.token ∷ v.rest) v.cut (omega (arith, h, v.count)) in record {
-    used = v.used;
-    token = v.token;
-    rest = v.rest;
-    cut = v.cut;
-    count = v.count;
-    none = λ more. subst IsErr (sym (
-        ap q (ap (λ l. l ++ v.token ∷ more) b.is ∙ append_assoc front b.more (v.token ∷ more))
-        ∙ same (b.more ++ v.token ∷ more) (same_head b.more (v.token ∷ v.rest) (v.token ∷ more) refl ∙ ap head (sym b.cut))
-        ∙ sym (ap p (ap (λ l. l ++ v.token ∷ more) b.is ∙ append_assoc front b.more (v.token ∷ more))))) (v.none more);
-  }
-  settled (Err (Deep n)) h v = tt

@@ -1,14 +1,15 @@
 -- One step of the parsers of parameters, constants, initializers and members each, where the parts are read.
-use Rattle.std.proofs.Common.{◌≡◌, ℕ, suc, pred, ◌+◌, max, nat_lt, Bool, true, false, ◌&&◌, not, List, [], ◌∷◌, ◌++◌, Option, Some, None, Ok, refl}
+use Rattle.std.proofs.Common.{◌≡◌, ℕ, suc, pred, ◌+◌, max, nat_lt, Bool, true, false, ◌&&◌, List, [], ◌∷◌, ◌++◌, Option, Some, None, Ok, refl, ap, ◌∙◌}
 use Rattle.al_base.specs.declared.place.Place.{Place}
 use Rattle.al_lex.specs.declared.kind.TokenKind.TheVariants as k
 use Rattle.al_lex.specs.declared.token.Token.{Token}
 use Rattle.al_tree.specs.Words.{start, member_scope, plain_aggregate}
 use Rattle.al_tree.specs.Types.{Leaves, known, name_at}
 use Rattle.al_tree.specs.Items.{still_takes_bracket}
-use Rattle.al_tree.specs.Reading.{Parser, kind, name_number, same_kind, take_if, expect_if}
+use Rattle.al_tree.specs.Reading.{Parser, and_then, kind, name_number, same_kind, take_if, expect_if}
 use Rattle.al_tree.specs.declared.type_tree.BasicType.TheVariants as basic
 use Rattle.al_tree.specs.declared.type_tree.Bound.{Bound}
+use Rattle.al_tree.specs.declared.type_tree.TypeTree.{TypeTree}
 use Rattle.al_tree.specs.declared.type_tree.TypeTree.TheVariants as ty
 use Rattle.al_tree.specs.declared.type_tree.Dcl.{Dcl}
 use Rattle.al_tree.specs.declared.item.Scope.{Scope}
@@ -22,40 +23,28 @@ use Rattle.al_tree.specs.declared.item.Member.{Member}
 use Rattle.al_tree.specs.declared.item.Member.TheVariants as mem
 use Rattle.al_tree.specs.declared.item.AdtPart.TheVariants as apart
 use Rattle.al_tree.specs.declared.item.AdtMember.{AdtMember}
+use Rattle.al_parse_type.specs.declared.part.Part.TheVariants as part
 use Rattle.al_parse_type.specs.declared.part.ReadBase.{ReadBase}
-use Rattle.al_parse_type.specs.Parse.{sees_type_name, sees_other_name, sees_type, other_name, bound, bounds_from, stars_from, sized_base, dcl}
-use Rattle.al_parse_type.specs.Within.{base_within}
+use Rattle.al_parse_type.specs.Parse.{sees_type_name, sees_other_name, begins_part, part_wanted, below, other_name, bound, bounds_from, stars_from, sized_base, dcl}
+use Rattle.al_parse_type.specs.Within.{base_within, inside_within, arguments_within}
 use Rattle.al_parse_expr.specs.Parse.{Sized}
 use Rattle.al_parse_expr.specs.Within.{assignment_within}
 use Rattle.al_parse_member.specs.Parameters as params
-use Rattle.al_parse_member.specs.Parameters.{OpenBounds, SizedParameter, Parameters, parameter_list}
+use Rattle.al_parse_member.specs.Parameters.{OpenBounds, SizedParameter, Parameters, some_name, parameter_list}
 use Rattle.al_parse_member.specs.Members as parse
 use Rattle.al_parse_member.specs.Members.{SizedDcl, SizedMember, Members, SizedPart, SizedAdtMember, AdtMembers, Constants, SizedInitializer}
 
--- ---- what stands behind the name of a type
-
-module _ (types : List ℕ) where
-  pub inside_seen : (m : ℕ) (ts : List Token) (b : Bool) → same_kind (kind ts) k.LeftParen ≡ false → sees_type types ts ≡ b → params.type_inside_from types (suc m) ts ≡ Ok (b, ts)
-  unfolding params.type_inside_from
-  inside_seen m ts b f e = rw (f, e) refl
-
-  pub inside_paren : (m : ℕ) (o : Token) (ts : List Token) → o.kind ≡ k.LeftParen → params.type_inside_from types (suc m) (o ∷ ts) ≡ params.type_inside_from types m ts
-  unfolding params.type_inside_from kind same_kind take_if
-  inside_paren m o ts c = rw c refl
-
-  pub no_array_name : (F : ℕ) (ts : List Token) → sees_type_name types ts ≡ false → params.sees_array types F ts ≡ false
-  unfolding params.sees_array params.array_ahead params.type_name
-  no_array_name F ts f = rw f refl
-
-  pub no_array_bracket : (F : ℕ) (t : Token) (ts : List Token) → sees_type_name types (t ∷ ts) ≡ true → same_kind (kind ts) k.LeftBracket ≡ false → params.sees_array types F (t ∷ ts) ≡ false
-  unfolding params.sees_array params.array_ahead params.type_name take_if expect_if
-  no_array_bracket F t ts e f = rw (e, f) refl
-
-  pub array_inside : (F : ℕ) (t o : Token) (ts left : List Token) (b : Bool) → sees_type_name types (t ∷ o ∷ ts) ≡ true → o.kind ≡ k.LeftBracket → params.type_inside_from types F ts ≡ Ok (b, left) → params.sees_array types F (t ∷ o ∷ ts) ≡ not b
-  unfolding params.sees_array params.array_ahead params.type_name take_if expect_if kind same_kind
-  array_inside F t o ts left b e oc q = rw (e, oc, q) refl
-
 module _ (leaves : Leaves) (types : List ℕ) (F n : ℕ) where
+  -- ---- what stands in brackets behind a type's name
+
+  pub inside_part : (ts : List Token) → begins_part types true ts ≡ true → nat_lt 0 n ≡ true → inside_within leaves types F n ts ≡ below leaves types F n (part_wanted true) ts
+  unfolding inside_within
+  inside_part ts g room = rw (g, room) refl
+
+  pub inside_bound : (ts r : List Token) (x : Bound) (h : ℕ) → begins_part types true ts ≡ false → bound leaves types F n ts ≡ Ok ((x, h), r) → inside_within leaves types F n ts ≡ Ok ((part.Bound x, h), r)
+  unfolding inside_within
+  inside_bound ts r x h g e = rw (g, e) refl
+
   -- ---- bounds of which some may be missing
 
   pub step_missing : (m : ℕ) (o c : Token) (r : List Token) (xs : List (Option Bound)) (h : ℕ) → o.kind ≡ k.LeftBracket → c.kind ≡ k.RightBracket
@@ -89,22 +78,45 @@ module _ (leaves : Leaves) (types : List ℕ) (F n : ℕ) where
   unfolding params.parameter_after params.unnamed_parameter
   step_unnamed at b ts r1 r s bs e f g q = rw (e, f, g, q) refl
 
-  pub step_array : (t : Token) (ts r : List Token) (bs : OpenBounds) → params.sees_array types F (t ∷ ts) ≡ true → params.open_bounds_from leaves types F n F [] 0 ts ≡ Ok (bs, r)
-      → params.parameter leaves types F n (t ∷ ts) ≡ Ok ((par.Plain t.place (ty.Named t.place t.name []) 0 None bs.0, bs.1), r)
-  unfolding params.parameter params.array_parameter take_if
-  step_array t ts r bs a q = rw (a, q) refl
+  pub step_name : (t : Token) (ts : List Token) → sees_type_name types (t ∷ ts) ≡ true → same_kind (kind ts) k.LeftBracket ≡ false
+      → params.parameter leaves types F n (t ∷ ts) ≡ params.parameter_after leaves types F n t.place (sized_base (ty.Named t.place t.name []) 0) ts
+  unfolding params.parameter params.name_parameter take_if
+  step_name t ts e f = rw (e, f) refl
 
-  pub step_own_pointer : (w t : Token) (r : List Token) → params.sees_array types F (w ∷ t ∷ r) ≡ false → w.kind ≡ k.Star → sees_type_name types (t ∷ r) ≡ true
+  pub step_bracket : (t o : Token) (ts : List Token) → sees_type_name types (t ∷ o ∷ ts) ≡ true → o.kind ≡ k.LeftBracket → params.parameter leaves types F n (t ∷ o ∷ ts) ≡ params.bracket leaves types F n t ts
+  unfolding params.parameter params.name_parameter kind same_kind take_if
+  step_bracket t o ts e oc = rw (e, oc) refl
+
+  pub step_no_bound : (t c : Token) (ts : List Token) → c.kind ≡ k.RightBracket → params.bracket leaves types F n t (c ∷ ts) ≡ params.array_of leaves types F n t None 0 ts
+  unfolding params.bracket kind same_kind take_if
+  step_no_bound t c ts ec = rw ec refl
+
+  pub step_arguments : (t : Token) (ts r1 r : List Token) (x : TypeTree) (h : ℕ) (b : ReadBase) → same_kind (kind ts) k.RightBracket ≡ false → inside_within leaves types F n ts ≡ Ok ((part.Type x, h), r1) → arguments_within leaves types F n t (x, h) r1 ≡ Ok (b, r)
+      → params.bracket leaves types F n t ts ≡ params.parameter_after leaves types F n t.place b r
+  unfolding params.bracket
+  step_arguments t ts r1 r x h b f e q = rw f (ap (λ o. and_then o (params.bracketed leaves types F n t)) e ∙ ap (λ o. and_then o (params.parameter_after leaves types F n t.place)) q)
+
+  pub step_bound : (t c : Token) (ts r : List Token) (x : Bound) (h : ℕ) → same_kind (kind ts) k.RightBracket ≡ false → inside_within leaves types F n ts ≡ Ok ((part.Bound x, h), c ∷ r) → c.kind ≡ k.RightBracket
+      → params.bracket leaves types F n t ts ≡ params.array_of leaves types F n t (Some x) h r
+  unfolding params.bracket kind same_kind take_if expect_if
+  step_bound t c ts r x h f e ec = rw (f, e, ec) refl
+
+  pub step_array : (t : Token) (ts r : List Token) (first : Option Bound) (h : ℕ) (bs : OpenBounds) → params.open_bounds_from leaves types F n F (first ∷ []) h ts ≡ Ok (bs, r)
+      → params.array_of leaves types F n t first h ts ≡ Ok ((par.Plain t.place (ty.Named t.place t.name []) 0 None bs.0, bs.1), r)
+  unfolding params.array_of
+  step_array t ts r first h bs e = rw e refl
+
+  pub step_own_pointer : (w t : Token) (r : List Token) → sees_type_name types (w ∷ t ∷ r) ≡ false → w.kind ≡ k.Star → some_name types ≡ true → sees_type_name types (t ∷ r) ≡ true
       → params.parameter leaves types F n (w ∷ t ∷ r) ≡ Ok ((par.OwnPointer w.place t.name, 0), r)
   unfolding params.parameter params.own_pointer params.type_name kind same_kind take_if
-  step_own_pointer w t r a c e = rw (a, c, e) refl
+  step_own_pointer w t r a c names e = rw (a, c, names, e) refl
 
-  pub step_own_value : (w t : Token) (r : List Token) → params.sees_array types F (w ∷ t ∷ r) ≡ false → w.kind ≡ k.Dot → sees_type_name types (t ∷ r) ≡ true
+  pub step_own_value : (w t : Token) (r : List Token) → sees_type_name types (w ∷ t ∷ r) ≡ false → w.kind ≡ k.Dot → some_name types ≡ true → sees_type_name types (t ∷ r) ≡ true
       → params.parameter leaves types F n (w ∷ t ∷ r) ≡ Ok ((par.OwnValue w.place t.name, 0), r)
   unfolding params.parameter params.own_value params.type_name kind same_kind take_if
-  step_own_value w t r a c e = rw (a, c, e) refl
+  step_own_value w t r a c names e = rw (a, c, names, e) refl
 
-  pub step_based : (ts r1 : List Token) (b : ReadBase) → params.sees_array types F ts ≡ false → same_kind (kind ts) k.Star ≡ false → same_kind (kind ts) k.Dot ≡ false → base_within leaves types F n ts ≡ Ok (b, r1)
+  pub step_based : (ts r1 : List Token) (b : ReadBase) → sees_type_name types ts ≡ false → same_kind (kind ts) k.Star ≡ false → same_kind (kind ts) k.Dot ≡ false → base_within leaves types F n ts ≡ Ok (b, r1)
       → params.parameter leaves types F n ts ≡ params.parameter_after leaves types F n (start ts) b r1
   unfolding params.parameter params.based_parameter
   step_based ts r1 b a s d e = rw (a, s, d, e) refl

@@ -1,21 +1,22 @@
 -- The parser of parameters, on lists of tokens.
 --
 -- Loops make at most `turns` turns, and what is read has at most `depth` levels.
-use Rattle.std.specs.Prelude.{ℕ, zero, suc, max, Bool, true, false, not, if◌then◌else◌, List, [], ◌∷◌, ◌++◌, Option, Some, None, Ok, Err}
+use Rattle.std.specs.Prelude.{ℕ, zero, suc, max, nat_lt, length, Bool, true, ◌&&◌, if◌then◌else◌, List, [], ◌∷◌, ◌++◌, Option, Some, None}
 use Rattle.al_base.specs.declared.place.Place.{Place}
 use Rattle.al_lex.specs.declared.kind.TokenKind.TheVariants as k
 use Rattle.al_lex.specs.declared.token.Token.{Token}
 use Rattle.al_tree.specs.Types.{Leaves, name_at}
 use Rattle.al_tree.specs.Items.{still_takes_bracket}
-use Rattle.al_tree.specs.Reading.{Outcome, Parser, ◌>>=◌, ◌>>◌, pure, refuse, same_kind, looks, peek, here, take_if, expect}
+use Rattle.al_tree.specs.Reading.{Parser, ◌>>=◌, ◌>>◌, pure, refuse, same_kind, looks, peek, here, take_if, expect}
 use Rattle.al_tree.specs.declared.type_tree.BasicType.TheVariants as basic
 use Rattle.al_tree.specs.declared.type_tree.Bound.{Bound}
 use Rattle.al_tree.specs.declared.type_tree.TypeTree.TheVariants as ty
 use Rattle.al_tree.specs.declared.item.Parameter.{Parameter}
 use Rattle.al_tree.specs.declared.item.Parameter.TheVariants as par
+use Rattle.al_parse_type.specs.declared.part.Part.TheVariants as part
 use Rattle.al_parse_type.specs.declared.part.ReadBase.{ReadBase}
-use Rattle.al_parse_type.specs.Parse.{sees_type, sees_type_name, sees_other_name, bound, stars_from, sized_base}
-use Rattle.al_parse_type.specs.Within.{base_within}
+use Rattle.al_parse_type.specs.Parse.{SizedPart, sees_type_name, sees_other_name, bound, stars_from, sized_base}
+use Rattle.al_parse_type.specs.Within.{base_within, inside_within, arguments_within}
 
 abbrev pub OpenBounds : Type 0
 OpenBounds = List (Option Bound) × ℕ
@@ -30,28 +31,9 @@ Parameters = List Parameter × ℕ
 unfoldable pub type_name : List ℕ → Parser Token
 type_name types = looks (sees_type_name types) >>= (λ is. if is then take_if true else refuse)
 
--- whether a type begins behind the parentheses that open
-unfoldable pub type_inside_from : List ℕ → ℕ → Parser Bool
-type_inside_from types zero = refuse
-type_inside_from types (suc n) = do
-  next ← peek
-  if same_kind next k.LeftParen then (take_if true >> type_inside_from types n) else looks (sees_type types)
-
--- whether what stands in brackets behind the name of a type is no type
-unfoldable pub array_ahead : List ℕ → ℕ → Parser Bool
-array_ahead types turns = do
-  type_name types
-  expect k.LeftBracket
-  is ← type_inside_from types turns
-  pure (not is)
-
-abbrev pub is_yes : Outcome Bool → Bool
-is_yes (Ok x) = x.0
-is_yes (Err e) = false
-
--- whether an array of the type that the next token names begins with it
-unfoldable pub sees_array : List ℕ → ℕ → List Token → Bool
-sees_array types turns ts = is_yes (array_ahead types turns ts)
+-- whether any name is a type's
+abbrev pub some_name : List ℕ → Bool
+some_name types = nat_lt 0 (length types)
 
 module _ (leaves : Leaves) (types : List ℕ) (turns depth : ℕ) where
   -- bound "]"
@@ -94,12 +76,29 @@ module _ (leaves : Leaves) (types : List ℕ) (turns depth : ℕ) where
     is_name ← looks (sees_other_name types)
     if is_name then named_parameter at b stars else (if still_takes_bracket b.takes_bracket stars then pure (par.Plain at b.tree stars None [], b.height) else unnamed_parameter at b stars)
 
-  -- an array without a name, of the type that the next token names
-  unfoldable pub array_parameter : Parser SizedParameter
-  array_parameter = do
-    t ← take_if true
-    bs ← open_bounds_from turns [] 0
+  -- an array without a name, of the type of that name, behind its first brackets
+  unfoldable pub array_of : Token → Option Bound → ℕ → Parser SizedParameter
+  array_of t first h = do
+    bs ← open_bounds_from turns (first ∷ []) h
     pure (par.Plain t.place (ty.Named t.place t.name []) 0 None bs.0, bs.1)
+
+  -- the parameter that begins with the type of that name and with what stands in brackets behind it
+  abbrev pub bracketed : Token → SizedPart → Parser SizedParameter
+  bracketed t (part.Type x, h) = arguments_within leaves types turns depth t (x, h) >>= parameter_after t.place
+  bracketed t (part.Bound x, h) = expect k.RightBracket >> array_of t (Some x) h
+
+  -- the same behind the bracket that opens
+  unfoldable pub bracket : Token → Parser SizedParameter
+  bracket t = do
+    next ← peek
+    if same_kind next k.RightBracket then (take_if true >> array_of t None 0) else (inside_within leaves types turns depth >>= bracketed t)
+
+  -- a parameter that begins with a type's name
+  unfoldable pub name_parameter : Parser SizedParameter
+  name_parameter = do
+    t ← take_if true
+    next ← peek
+    if same_kind next k.LeftBracket then (take_if true >> bracket t) else parameter_after t.place (sized_base (ty.Named t.place t.name []) 0)
 
   unfoldable pub own_pointer : Parser SizedParameter
   own_pointer = do
@@ -113,18 +112,19 @@ module _ (leaves : Leaves) (types : List ℕ) (turns depth : ℕ) where
     t ← type_name types
     pure (par.OwnValue w.place t.name, 0)
 
-  -- a parameter that begins with a base type
+  -- a parameter that begins with any other base type
   unfoldable pub based_parameter : Parser SizedParameter
   based_parameter = do
     at ← here
     b ← base_within leaves types turns depth
     parameter_after at b
 
+  -- where no name is a type's, nothing goes on behind a star or a dot
   unfoldable pub parameter : Parser SizedParameter
   parameter = do
-    is_array ← looks (sees_array types turns)
+    is_name ← looks (sees_type_name types)
     next ← peek
-    if is_array then array_parameter else (if same_kind next k.Star then own_pointer else (if same_kind next k.Dot then own_value else based_parameter))
+    if is_name then name_parameter else (if same_kind next k.Star && some_name types then own_pointer else (if same_kind next k.Dot && some_name types then own_value else based_parameter))
 
   unfoldable pub parameters_from : ℕ → List Parameter → ℕ → Parser Parameters
   parameters_from zero xs h = refuse

@@ -3,13 +3,17 @@ ghost use Rattle.std.specs.Prelude.{◌≡◌, ◌+◌, ◌-◌, ◌<◌, ◌≤
 ghost use Rattle.al_tree.specs.Leaves.{leaves_of};
 ghost use Rattle.al_tree.specs.Reading.{Reads};
 ghost use Rattle.al_tree.specs.Items as grammar;
+ghost use Rattle.al_parse_type.specs.Nests.{Fits};
 ghost use Rattle.al_parse_member.specs.Parameters as spec;
 
 use crate::context::{Context, flat_base, name_at, type_name};
 use al_base::{NoMemory, Place};
 use al_items::Items;
-use al_lex::TokenKind;
-use al_parse_type::{ReadBase, base_within, bound_within, sees_other_name, sees_type, stars_from};
+use al_lex::{Token, TokenKind};
+use al_parse_type::{
+    Part, ReadBase, arguments_within, base_within, bound_within, inside_within, sees_other_name,
+    sees_type_name, stars_from,
+};
 use al_tree::{BasicType, Bound, Cursor, Parameter, ParseError, TypeTree};
 use std::alloc::Global;
 
@@ -22,6 +26,17 @@ fn only(alloc: Global, x: Parameter) -> Result<Items<Parameter>, NoMemory>
     Ok(all)
 }
 
+/// The type of that name.
+fn named_by(alloc: Global, t: Token) -> TypeTree
+    ensures { result ≡ TypeTree.Named t.place t.name [] }
+{
+    TypeTree::Named {
+        at: t.place,
+        name: t.name,
+        arguments: Items::new(alloc),
+    }
+}
+
 /// Whether a `[` behind so many stars still belongs to a channel type.
 fn still_takes_bracket(takes: bool, stars: u32) -> bool
     ensures { result ≡ grammar.still_takes_bracket takes stars }
@@ -30,43 +45,6 @@ fn still_takes_bracket(takes: bool, stars: u32) -> bool
 }
 
 impl<'t> Context<'t> {
-    /// Whether a type begins behind the parentheses that open.
-    fn type_inside_from(&self, tokens: &mut Cursor<'_>) -> Result<bool, ParseError>
-        ensures { Reads (spec.type_inside_from self.now.types.now self.now.turns tokens.old) result tokens.new }
-    {
-        for _turn in 0..self.turns {
-            if !tokens.next_is(TokenKind::LeftParen) {
-                return Ok(sees_type(self.types, tokens));
-            }
-            tokens.take_if(true)?;
-        }
-        Err(tokens.refuse())
-    }
-
-    /// Whether what stands in brackets behind the name of a type is no type.
-    #[tactic(auto, unfolding(crate::specs::Parameters::array_ahead))]
-    fn array_ahead(&self, tokens: &mut Cursor<'_>) -> Result<bool, ParseError>
-        ensures { Reads (spec.array_ahead self.now.types.now self.now.turns tokens.old) result tokens.new }
-    {
-        type_name(self.types, tokens)?;
-        tokens.expect(TokenKind::LeftBracket)?;
-        let is_type = self.type_inside_from(tokens)?;
-        Ok(!is_type)
-    }
-
-    /// Whether an array of the type that the next token names begins with it.
-    #[tactic(auto, unfolding(crate::specs::Parameters::sees_array))]
-    fn sees_array(&self, tokens: &Cursor<'_>) -> Result<bool, NoMemory>
-        ensures { IfOk result (λ is. is ≡ spec.sees_array self.now.types.now self.now.turns tokens.now) }
-    {
-        let mut ahead = tokens.fork();
-        match self.array_ahead(&mut ahead) {
-            Ok(is) => Ok(is),
-            Err(ParseError::NoMemory) => Err(NoMemory),
-            Err(_) => Ok(false),
-        }
-    }
-
     /// A bound and the bracket that closes.
     #[tactic(auto, unfolding(crate::specs::Parameters::closed_bound))]
     fn closed_bound(&self, tokens: &mut Cursor<'_>) -> Result<(Bound, u32), ParseError>
@@ -195,28 +173,101 @@ impl<'t> Context<'t> {
         Ok((parameter, height))
     }
 
-    /// An array without a name, of the type that the next token names.
-    #[tactic(auto, unfolding(crate::specs::Parameters::array_parameter))]
-    fn array_parameter(&self, tokens: &mut Cursor<'_>) -> Result<(Parameter, u32), ParseError>
+    /// An array without a name, of the type of that name, behind its first brackets.
+    #[tactic(auto, unfolding(crate::specs::Parameters::array_of))]
+    fn array_of(
+        &self,
+        t: Token,
+        first: Option<Bound>,
+        height: u32,
+        tokens: &mut Cursor<'_>,
+    ) -> Result<(Parameter, u32), ParseError>
         requires depth { self.now.depth < 999 }
-        ensures reads { Reads (spec.array_parameter (leaves_of self.now.text.now) self.now.types.now self.now.turns self.now.depth tokens.old) result tokens.new }
+        requires height { height ≤ self.now.depth }
+        ensures reads { Reads (spec.array_of (leaves_of self.now.text.now) self.now.types.now self.now.turns self.now.depth t first height tokens.old) result tokens.new }
         ensures low { IfOk result (λ y. y.1 ≤ self.now.depth) }
     {
-        let t = tokens.take_if(true)?;
-        let found = Items::new(self.alloc);
-        let (bounds, height) = self.open_bounds_from(found, 0, tokens)?;
+        let mut found = Items::new(self.alloc);
+        found.push(first)?;
+        let (bounds, height) = self.open_bounds_from(found, height, tokens)?;
         let parameter = Parameter::Plain {
             at: t.place,
-            base: TypeTree::Named {
-                at: t.place,
-                name: t.name,
-                arguments: Items::new(self.alloc),
-            },
+            base: named_by(self.alloc, t),
             stars: 0,
             name: None,
             bounds,
         };
         Ok((parameter, height))
+    }
+
+    /// The parameter that begins with the type of that name and with what stands in brackets behind it.
+    fn bracketed(
+        &self,
+        t: Token,
+        x: (Part, u32),
+        tokens: &mut Cursor<'_>,
+    ) -> Result<(Parameter, u32), ParseError>
+        requires turns { self.now.turns < 2 ^ 32 }
+        requires depth { self.now.depth < 999 }
+        requires height { Fits self.now.depth x.0 x.1 }
+        ensures reads { Reads (spec.bracketed (leaves_of self.now.text.now) self.now.types.now self.now.turns self.now.depth t x tokens.old) result tokens.new }
+        ensures low { IfOk result (λ y. y.1 ≤ self.now.depth) }
+    {
+        let (part, height) = x;
+        match part {
+            Part::Type(x) => {
+                let b = arguments_within(
+                    self.alloc,
+                    self.text,
+                    self.types,
+                    self.turns,
+                    self.depth,
+                    t,
+                    (x, height),
+                    tokens,
+                )?;
+                self.parameter_after(t.place, b, tokens)
+            }
+            Part::Bound(x) => {
+                tokens.expect(TokenKind::RightBracket)?;
+                self.array_of(t, Some(x), height, tokens)
+            }
+        }
+    }
+
+    /// The same behind the bracket that opens.
+    #[tactic(auto, unfolding(crate::specs::Parameters::bracket))]
+    fn bracket(&self, t: Token, tokens: &mut Cursor<'_>) -> Result<(Parameter, u32), ParseError>
+        requires turns { self.now.turns < 2 ^ 32 }
+        requires depth { self.now.depth < 999 }
+        ensures reads { Reads (spec.bracket (leaves_of self.now.text.now) self.now.types.now self.now.turns self.now.depth t tokens.old) result tokens.new }
+        ensures low { IfOk result (λ y. y.1 ≤ self.now.depth) }
+    {
+        if tokens.next_is(TokenKind::RightBracket) {
+            tokens.take_if(true)?;
+            return self.array_of(t, None, 0, tokens);
+        }
+        let x = inside_within(
+            self.alloc, self.text, self.types, self.turns, self.depth, tokens,
+        )?;
+        self.bracketed(t, x, tokens)
+    }
+
+    /// A parameter that begins with a type's name.
+    #[tactic(auto, unfolding(crate::specs::Parameters::name_parameter))]
+    fn name_parameter(&self, tokens: &mut Cursor<'_>) -> Result<(Parameter, u32), ParseError>
+        requires turns { self.now.turns < 2 ^ 32 }
+        requires depth { self.now.depth < 999 }
+        ensures reads { Reads (spec.name_parameter (leaves_of self.now.text.now) self.now.types.now self.now.turns self.now.depth tokens.old) result tokens.new }
+        ensures low { IfOk result (λ y. y.1 ≤ self.now.depth) }
+    {
+        let t = tokens.take_if(true)?;
+        if tokens.next_is(TokenKind::LeftBracket) {
+            tokens.take_if(true)?;
+            return self.bracket(t, tokens);
+        }
+        let b = flat_base(named_by(self.alloc, t));
+        self.parameter_after(t.place, b, tokens)
     }
 
     #[tactic(auto, unfolding(crate::specs::Parameters::own_pointer))]
@@ -247,6 +298,7 @@ impl<'t> Context<'t> {
         Ok((parameter, 0))
     }
 
+    /// A parameter that begins with any other base type.
     #[tactic(auto, unfolding(crate::specs::Parameters::based_parameter))]
     fn based_parameter(&self, tokens: &mut Cursor<'_>) -> Result<(Parameter, u32), ParseError>
         requires turns { self.now.turns < 2 ^ 32 }
@@ -268,12 +320,13 @@ impl<'t> Context<'t> {
         ensures reads { Reads (spec.parameter (leaves_of self.now.text.now) self.now.types.now self.now.turns self.now.depth tokens.old) result tokens.new }
         ensures low { IfOk result (λ y. y.1 ≤ self.now.depth) }
     {
-        if self.sees_array(tokens)? {
-            return self.array_parameter(tokens);
+        if sees_type_name(self.types, tokens) {
+            return self.name_parameter(tokens);
         }
-        if tokens.next_is(TokenKind::Star) {
+        let names = 0 < self.types.len();
+        if tokens.next_is(TokenKind::Star) && names {
             self.own_pointer(tokens)
-        } else if tokens.next_is(TokenKind::Dot) {
+        } else if tokens.next_is(TokenKind::Dot) && names {
             self.own_value(tokens)
         } else {
             self.based_parameter(tokens)
