@@ -3,6 +3,9 @@ pub mod Steps
 pub mod InitializerIs
 pub mod ParameterSound
 pub mod ParameterComplete
+pub mod ParameterLaw
+pub mod InitializerLaw
+pub mod MemberLaw
 pub mod MemberSound
 pub mod MemberComplete
 pub mod Steady
