@@ -1,9 +1,9 @@
 pub mod Sound
 pub mod Steps
 pub mod InitializerIs
+pub mod ParameterLaw
 pub mod ParameterSound
 pub mod ParameterComplete
-pub mod ParameterLaw
 pub mod InitializerLaw
 pub mod MemberLaw
 pub mod MemberSound
