@@ -4,6 +4,8 @@ pub mod InitializerIs
 pub mod ParameterLaw
 pub mod ParameterSound
 pub mod ParameterComplete
+pub mod InitializerLaw
+pub mod MemberLaw
 pub mod MemberSound
 pub mod MemberComplete
 pub mod Steady

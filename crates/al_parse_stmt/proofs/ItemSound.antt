@@ -7,7 +7,7 @@ use Rattle.al_lex.specs.declared.token.Token.{Token}
 use Rattle.al_tree.specs.Words.{start, scope_word, plain_aggregate, aggregate}
 use Rattle.al_tree.specs.Types.{Leaves, with_name, with_names, name_at, IsOtherName, IsBase, AreStars, IsDcl, dcl as is_dcl}
 use Rattle.al_tree.specs.Statements.{IsBlock}
-use Rattle.al_tree.specs.Items.{Declared, with_type, with_adt, number_of, body_types, IsParameterList, IsAdtMembers, AreNewNames, IsScope, IsSemicolon, IsHead, IsDeclarator, IsDeclarators, IsItem, IsItems}
+use Rattle.al_tree.specs.Items.{Declared, with_type, with_adt, number_of, body_types, IsParameterList, AreNewNames, IsScope, IsSemicolon, IsHead, IsDeclarator, IsDeclarators, IsItem, IsItems}
 use Rattle.al_tree.specs.Items as items
 use Rattle.al_tree.specs.Reading.{Outcome, Parser, and_then, ◌>>=◌, pure, refuse, kind, same_kind, take_if, expect}
 use Rattle.al_tree.specs.declared.expression.Name.{Name}
@@ -31,10 +31,11 @@ use Rattle.al_parse_type.proofs.TypeLaw.{LBase, base_long}
 use Rattle.al_parse_block.specs.Parse.{block_within}
 use Rattle.al_parse_block.proofs.BlockLaw.{block_within_law}
 use Rattle.al_parse_member.specs.Parameters.{Parameters, parameter_list}
-use Rattle.al_parse_member.specs.Members.{AdtMembers, enum_body, member, adt_body, adt_members}
-use Rattle.al_parse_member.proofs.Sound.{Sound, pure_sound, refuse_sound, bind_sound, bind_guard_sound, choose_sound, look_sound, take_sound, expect_if_sound, expect_sound, map_sound, relang_sound, guard_sound, law_sound}
+use Rattle.al_parse_member.specs.Members.{AdtMembers, enum_body, adt_body}
+use Rattle.al_parse_member.proofs.Sound.{Sound, pure_sound, refuse_sound, bind_sound, bind_guard_sound, choose_sound, look_sound, take_sound, expect_sound, map_sound, relang_sound, guard_sound, law_sound}
 use Rattle.al_parse_member.proofs.ParameterSound.{other_name_sound, other_name_guard, bases, stars, all_bounds, list_sound}
-use Rattle.al_parse_member.proofs.MemberSound.{enum_sound, member_sound, members_sound, adt_members_sound}
+use Rattle.al_parse_member.proofs.MemberSound.{enum_sound, members_sound, adt_body_sound}
+use Rattle.al_parse_member.proofs.MemberLaw.{IsAdtBraces}
 use Rattle.al_parse_stmt.specs.Ahead.{owner_ahead, owner_of, inside_of}
 use Rattle.al_parse_stmt.specs.Begun.{Begun, owners, settled, begins, begun_as, begun}
 use Rattle.al_parse_stmt.specs.Heads.{SizedDeclarator, new_names_from, declarator, declarator_after}
@@ -125,30 +126,14 @@ module _ (leaves : Leaves) (F n : ℕ) (d : Declared) where
 
   plain_of_sound : {G : List Token → Type 0} (kd : AggregateKind) (w t : Token) → plain_aggregate w.kind ≡ Some kd → t.kind ≡ k.Name → Sound F G (parse.plain_of leaves F n d kd w.place t) (λ r y. LItem leaves d (w ∷ t ∷ r) y)
   unfolding parse.plain_of
-  plain_of_sound kd w t wc c = bind_sound (members_sound leaves (with_name d.types t.name) F n (member leaves (with_name d.types t.name) F n) (member_sound leaves (with_name d.types t.name) F n)) (λ u xs l.
+  plain_of_sound kd w t wc c = bind_sound (members_sound leaves (with_name d.types t.name) F n) (λ u xs l.
       map_sound (λ _. built (with_type t.name d) xs.1 (item.Aggregate w.place kd (name_at t) xs.0)) (semicolon_sound leaves) (λ q _ s.
       subst (λ z. LItem leaves d (w ∷ t ∷ z) (built (with_type t.name d) xs.1 (item.Aggregate w.place kd (name_at t) xs.0))) (sym (ap (λ z. z ++ q) l.cut ∙ ap (λ z. l.opening ∷ z) (append_assoc l.within (l.closing ∷ []) q)))
       (items.plain_members w t l.opening l.closing wc c l.opens l.is l.closes s)))
 
-  -- members of an adt in braces
-  pub record IsAdtBraces (types : List ℕ) (u : List Token) (x : AdtMembers) : Type 0 where
-    pub opening : Token
-    pub closing : Token
-    pub within : List Token
-    pub cut : u ≡ opening ∷ (within ++ closing ∷ [])
-    pub opens : opening.kind ≡ k.LeftBrace
-    pub closes : closing.kind ≡ k.RightBrace
-    pub is : IsAdtMembers leaves types within x.0 x.1
-
-  adt_body_sound : {G : List Token → Type 0} (types : List ℕ) → Sound F G (adt_body leaves types F n) (IsAdtBraces types)
-  unfolding adt_body
-  adt_body_sound types = expect_if_sound (nat_lt 0 n) k.LeftBrace (λ _. adt_members leaves types F (pred n) (member leaves types F (pred n))) (λ o oc.
-      relang_sound (λ u x b. record { opening = o; closing = b.closing; within = b.within; cut = ap (λ z. o ∷ z) b.cut; opens = oc; closes = b.closes; is = b.is })
-      (adt_members_sound leaves types F (pred n) (member leaves types F (pred n)) (member_sound leaves types F (pred n))))
-
   adt_of_sound : {G : List Token → Type 0} (w t : Token) → w.kind ≡ k.Adt → t.kind ≡ k.Name → Sound F G (parse.adt_of leaves F n d w.place t) (λ r y. LItem leaves d (w ∷ t ∷ r) y)
   unfolding parse.adt_of
-  adt_of_sound w t wc c = bind_sound (adt_body_sound (with_name d.types t.name)) (λ u xs l.
+  adt_of_sound w t wc c = bind_sound (adt_body_sound leaves (with_name d.types t.name) F n) (λ u xs l.
       map_sound (λ _. built (with_type t.name d) xs.1 (item.Adt w.place (name_at t) [] xs.0)) (semicolon_sound leaves) (λ q _ s.
       subst (λ z. LItem leaves d (w ∷ t ∷ z) (built (with_type t.name d) xs.1 (item.Adt w.place (name_at t) [] xs.0))) (sym (ap (λ z. z ++ q) l.cut ∙ ap (λ z. l.opening ∷ z) (append_assoc l.within (l.closing ∷ []) q)))
       (items.adt w t l.opening l.closing wc c l.opens l.is l.closes s)))
@@ -168,7 +153,7 @@ module _ (leaves : Leaves) (F n : ℕ) (d : Declared) where
       expect_sound k.RightBracket (λ _. pure xs) (λ c ec. pure_sound xs (record { front = f ∷ v; last = c; cut = refl; closes = ec; is = l }))))
 
   parametrised_is : (w t l : Token) (p u q : List Token) (ns : List Name) (xs : AdtMembers) → w.kind ≡ k.Adt → t.kind ≡ k.Name → l.kind ≡ k.LeftBracket → IsClosedNames (with_name d.types t.name) p ns
-      → IsAdtBraces (with_names (with_name d.types t.name) (map number_of ns)) u xs → IsSemicolon leaves q
+      → IsAdtBraces leaves (with_names (with_name d.types t.name) (map number_of ns)) u xs → IsSemicolon leaves q
       → LItem leaves d (w ∷ t ∷ (l ∷ (p ++ (u ++ q)))) (built (with_adt t.name (map number_of ns) d) xs.1 (item.Adt w.place (name_at t) ns xs.0))
   parametrised_is w t l p u q ns xs wc c lc a b s =
       let y : ReadItem = built (with_adt t.name (map number_of ns) d) xs.1 (item.Adt w.place (name_at t) ns xs.0) in
@@ -181,7 +166,7 @@ module _ (leaves : Leaves) (F n : ℕ) (d : Declared) where
   parametrised_of_sound w t wc c = take_sound (nat_lt 0 n) (λ _. parse.new_names F (with_name d.types t.name) >>= (λ names. adt_body leaves (with_names (with_name d.types t.name) (map number_of names)) F n >>= (λ xs. parse.semicolon >>= (λ _. pure (built (with_adt t.name (map number_of names) d) xs.1 (item.Adt w.place (name_at t) names xs.0))))))
       (λ l. l.kind ≡ k.LeftBracket) (λ l ts g. first_kind l ts k.LeftBracket g)
       (λ l lc. bind_sound (names_sound (with_name d.types t.name)) (λ p ns a.
-      bind_sound (adt_body_sound (with_names (with_name d.types t.name) (map number_of ns))) (λ u xs b.
+      bind_sound (adt_body_sound leaves (with_names (with_name d.types t.name) (map number_of ns)) F n) (λ u xs b.
       map_sound (λ _. built (with_adt t.name (map number_of ns) d) xs.1 (item.Adt w.place (name_at t) ns xs.0)) (semicolon_sound leaves) (λ q _ s. parametrised_is w t l p u q ns xs wc c lc a b s))))
 
   adt_sound : {G : List Token → Type 0} (w t : Token) → w.kind ≡ k.Adt → t.kind ≡ k.Name → Sound F G (parse.bodied leaves F n d ag.Adt w.place t) (λ r y. LItem leaves d (w ∷ t ∷ r) y)
