@@ -1,12 +1,12 @@
 -- The parsers of declarators at file level keep the law.
-use Rattle.std.proofs.Common.{◌≡◌, ℕ, zero, suc, pred, ◌==◌, ◌<◌, ◌≤◌, max, nat_lt, not, Bool, true, false, if◌then◌else◌, List, [], ◌∷◌, ◌++◌, length, Option, Some, None, refl, sym, ap, ◌∙◌, subst, arith, append_assoc, append-nil}
+use Rattle.std.proofs.Common.{◌≡◌, ℕ, zero, suc, pred, ◌≤◌, max, nat_lt, not, Bool, true, false, if◌then◌else◌, List, [], ◌∷◌, ◌++◌, Option, Some, None, refl, sym, ap, ◌∙◌, subst, arith, append_assoc, append-nil}
 use Rattle.std.proofs.lemmas.Bool.{eqb-true}
 use Rattle.al_base.specs.declared.place.Place.{Place}
 use Rattle.al_lex.specs.declared.kind.TokenKind.{TokenKind}
 use Rattle.al_lex.specs.declared.kind.TokenKind.TheVariants as k
 use Rattle.al_lex.specs.declared.token.Token.{Token}
 use Rattle.al_tree.specs.Words.{start}
-use Rattle.al_tree.specs.Types.{Leaves, known, with_names, name_at, IsTypeName, type_name as is_type, IsOtherName, AreStars, IsBounds, IsDcl, dcl as is_dcl}
+use Rattle.al_tree.specs.Types.{Leaves, with_names, name_at, IsTypeName, type_name as is_type, IsOtherName, AreStars, IsBounds, IsDcl, dcl as is_dcl}
 use Rattle.al_tree.specs.Types as rules
 use Rattle.al_tree.specs.Items.{Declared, parameters_of, AreTypeNames, AreNewNames, IsParameterList, IsDeclarator, IsDeclarators}
 use Rattle.al_tree.specs.Items as items

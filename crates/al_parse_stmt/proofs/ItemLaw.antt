@@ -1,5 +1,5 @@
 -- The parsers of items keep the law; of a declaration, what follows its base type, stars and name.
-use Rattle.std.proofs.Common.{◌≡◌, ℕ, ◌<◌, ◌≤◌, max, nat_lt, Bool, true, false, if◌then◌else◌, List, [], ◌∷◌, ◌++◌, length, map, Option, Some, None, refl, sym, ap, ◌∙◌, subst, arith, append_assoc}
+use Rattle.std.proofs.Common.{◌≡◌, ℕ, ◌<◌, ◌≤◌, max, nat_lt, true, false, if◌then◌else◌, List, [], ◌∷◌, ◌++◌, map, Option, Some, None, refl, sym, ap, ◌∙◌, subst, arith, append_assoc}
 use Rattle.al_base.specs.declared.place.Place.{Place}
 use Rattle.al_lex.specs.declared.kind.TokenKind.{TokenKind}
 use Rattle.al_lex.specs.declared.kind.TokenKind.TheVariants as k
@@ -30,7 +30,6 @@ use Rattle.al_parse_type.specs.Within.{base_within}
 use Rattle.al_parse_type.proofs.BoundLaw.{always, lt_grows, lt_of, other_local, other_is, bounds_law, fresh_token, fresh_place, fresh_is}
 use Rattle.al_parse_type.proofs.TypeLaw.{LBase, base_long, room_law}
 use Rattle.al_parse_type.proofs.BaseWhole.{base_within_law}
-use Rattle.al_parse_block.specs.Parse.{block_within}
 use Rattle.al_parse_block.proofs.BlockLaw.{block_within_law}
 use Rattle.al_parse_member.specs.Parameters.{Parameters, parameter_list}
 use Rattle.al_parse_member.specs.Members.{AdtMembers, enum_body, adt_body}
@@ -45,7 +44,7 @@ use Rattle.al_parse_stmt.proofs.Facts.{start_behind}
 use Rattle.al_parse_stmt.proofs.HeadSound.{same_start}
 use Rattle.al_parse_stmt.proofs.Declared.{IsBegun, Agrees, OwnerFits}
 use Rattle.al_parse_stmt.proofs.LawSteps.{guard_law, taken_law, next_law, ask_law, new_name_law, all_stars, Placed, placed_law, some_tokens}
-use Rattle.al_parse_stmt.proofs.HeadLaw.{new_names_law, LDeclarator, declarator_after_law, declarators_law}
+use Rattle.al_parse_stmt.proofs.HeadLaw.{new_names_law, declarator_after_law, declarators_law}
 
 module _ (leaves : Leaves) where
   abbrev pub LItem : Declared → Lang ReadItem
