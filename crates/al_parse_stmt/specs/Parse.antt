@@ -26,7 +26,7 @@ use Rattle.al_parse_block.specs.Parse.{block_within}
 use Rattle.al_parse_member.specs.Parameters.{Parameters, parameter_list}
 use Rattle.al_parse_member.specs.Members.{enum_body, members_within, adt_body}
 use Rattle.al_parse_stmt.specs.Heads.{SizedDeclarator, new_names_from, declarator_after, declarators_from}
-use Rattle.al_parse_stmt.specs.Begun.{begun}
+use Rattle.al_parse_stmt.specs.Begun.{Begun, begun}
 
 -- an item, what is declared behind it, and its height
 pub record ReadItem : Type 0 where
@@ -180,12 +180,15 @@ module _ (leaves : Leaves) (turns depth : ℕ) (d : Declared) where
     if same_kind next k.LeftBrace then (if nat_lt 0 depth then with_body at scope b h head else (take_if false >> refuse)) else declared_more at scope b (dec.Function head, h)
   behind_first at scope b (dec.Global x y) h = declared_more at scope b (dec.Global x y, h)
 
-  -- behind the word before it or none
-  unfoldable pub declared : Place → Option Scope → Parser ReadItem
-  declared at scope = do
-    y ← begun leaves turns depth d
+  -- what follows what it begins with
+  unfoldable pub behind_begun : Place → Option Scope → Begun → Parser ReadItem
+  behind_begun at scope y = do
     x ← declarator_after leaves turns depth d y.1
     behind_first at scope y.0 x.0 x.1
+
+  -- behind the word before it or none
+  unfoldable pub declared : Place → Option Scope → Parser ReadItem
+  declared at scope = begun leaves turns depth d >>= behind_begun at scope
 
   unfoldable pub scoped : Scope → Parser ReadItem
   scoped word = do
