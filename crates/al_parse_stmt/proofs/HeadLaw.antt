@@ -23,8 +23,8 @@ use Rattle.al_parse_type.proofs.BoundLaw.{lt_grows, down_fits, at_nil, bounds_la
 use Rattle.al_parse_type.proofs.TypeLaw.{type_name_local}
 use Rattle.al_parse_member.specs.Parameters.{Parameters, type_name, parameter_list}
 use Rattle.al_parse_member.specs.Members.{SizedInitializer, initializer}
-use Rattle.al_parse_stmt.proofs.ParameterLaw.{list_law}
-use Rattle.al_parse_stmt.proofs.MemberLaw.{initializer_law}
+use Rattle.al_parse_member.proofs.ParameterLaw.{list_law}
+use Rattle.al_parse_member.proofs.InitializerLaw.{initializer_law}
 use Rattle.al_parse_stmt.specs.declared.heads.FirstName.{FirstName}
 use Rattle.al_parse_stmt.specs.Ahead.{some_parameters, inside_of}
 use Rattle.al_parse_stmt.specs.Begun.{lends, may_be, agrees}

@@ -6,8 +6,6 @@ pub mod Balanced
 pub mod Facts
 pub mod Declared
 pub mod HeadSound
-pub mod ParameterLaw
-pub mod MemberLaw
 pub mod LawSteps
 pub mod HeadLaw
 pub mod ItemLaw
