@@ -19,6 +19,7 @@ pub mod Furthest
 pub mod BegunSteady
 pub mod ItemSteady
 pub mod FitsKept
+pub mod DeclaredJudge
 pub mod ItemJudge
 pub mod TextJudge
 pub mod TextFault
