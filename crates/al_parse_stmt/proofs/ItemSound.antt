@@ -32,7 +32,7 @@ use Rattle.al_parse_block.specs.Parse.{block_within}
 use Rattle.al_parse_block.proofs.BlockLaw.{block_within_law}
 use Rattle.al_parse_member.specs.Parameters.{Parameters, parameter_list}
 use Rattle.al_parse_member.specs.Members.{AdtMembers, enum_body, adt_body}
-use Rattle.al_parse_member.proofs.Sound.{Sound, pure_sound, refuse_sound, bind_sound, bind_guard_sound, choose_sound, look_sound, take_sound, expect_sound, map_sound, relang_sound, guard_sound, law_sound}
+use Rattle.al_parse_member.proofs.Sound.{Sound, pure_sound, refuse_sound, bind_sound, bind_guard_sound, choose_sound, look_sound, take_sound, expect_sound, map_sound, guard_sound, law_sound}
 use Rattle.al_parse_member.proofs.ParameterSound.{other_name_sound, other_name_guard, bases, stars, all_bounds, list_sound}
 use Rattle.al_parse_member.proofs.MemberSound.{enum_sound, members_sound, adt_body_sound}
 use Rattle.al_parse_member.proofs.MemberLaw.{IsAdtBraces}
