@@ -33,8 +33,9 @@ use Rattle.al_parse_type.proofs.BaseWhole.{base_within_law}
 use Rattle.al_parse_block.proofs.BlockLaw.{block_within_law}
 use Rattle.al_parse_member.specs.Parameters.{Parameters, parameter_list}
 use Rattle.al_parse_member.specs.Members.{AdtMembers, enum_body, adt_body}
-use Rattle.al_parse_stmt.proofs.ParameterLaw.{list_law}
-use Rattle.al_parse_stmt.proofs.MemberLaw.{enum_law, braces_law, IsAdtBraces, adt_law}
+use Rattle.al_parse_member.proofs.ParameterLaw.{list_law}
+use Rattle.al_parse_member.proofs.InitializerLaw.{enum_law}
+use Rattle.al_parse_member.proofs.MemberLaw.{IsAdtBraces, braces_law, adt_law}
 use Rattle.al_parse_stmt.specs.Ahead.{inside_of}
 use Rattle.al_parse_stmt.specs.Begun.{Begun}
 use Rattle.al_parse_stmt.specs.Heads.{SizedDeclarator, new_names_from, declarators_from}

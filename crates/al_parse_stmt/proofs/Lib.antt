@@ -5,8 +5,6 @@ pub mod Balanced
 pub mod Facts
 pub mod Declared
 pub mod HeadSound
-pub mod ParameterLaw
-pub mod MemberLaw
 pub mod LawSteps
 pub mod HeadLaw
 pub mod ItemLaw
