@@ -23,7 +23,7 @@ use Rattle.al_parse_type.proofs.BoundLaw.{lt_grows, down_fits, at_nil, bounds_la
 use Rattle.al_parse_type.proofs.TypeLaw.{type_name_local}
 use Rattle.al_parse_member.specs.Parameters.{Parameters, type_name, parameter_list}
 use Rattle.al_parse_member.specs.Members.{SizedInitializer, initializer}
-use Rattle.al_parse_member.proofs.ParameterLaw.{list_law}
+use Rattle.al_parse_member.proofs.ParameterLaw.{type_name_law, list_law}
 use Rattle.al_parse_member.proofs.InitializerLaw.{initializer_law}
 use Rattle.al_parse_stmt.specs.declared.heads.FirstName.{FirstName}
 use Rattle.al_parse_stmt.specs.Ahead.{some_parameters, inside_of}
@@ -33,7 +33,7 @@ use Rattle.al_parse_stmt.specs.Heads.{SizedDeclarator, Declarators, headed}
 use Rattle.al_parse_stmt.proofs.KeptNames.{still_known}
 use Rattle.al_parse_stmt.proofs.HeadSound.{same_start}
 use Rattle.al_parse_stmt.proofs.Declared.{NameIs}
-use Rattle.al_parse_stmt.proofs.LawSteps.{fact_law, guard_law, taken_law, next_law, next_turn_law, ask_law, type_name_law, new_name_law, all_stars, Placed, placed_law, some_tokens}
+use Rattle.al_parse_stmt.proofs.LawSteps.{fact_law, guard_law, taken_law, next_law, next_turn_law, ask_law, new_name_law, all_stars, Placed, placed_law, some_tokens}
 
 -- ---- names
 

@@ -4,13 +4,11 @@ use Rattle.al_base.specs.declared.place.Place.{Place}
 use Rattle.al_lex.specs.declared.kind.TokenKind.{TokenKind}
 use Rattle.al_lex.specs.declared.token.Token.{Token}
 use Rattle.al_tree.specs.Words.{start}
-use Rattle.al_tree.specs.Types.{Leaves, IsTypeName, IsOtherName, AreStars, none as no_stars}
-use Rattle.al_tree.specs.Reading.{Parser, and_then, ◌>>=◌, refuse, kind, same_kind, take_if}
-use Rattle.al_tree.proofs.Law.{World, Family, Lang, Any, Has, Law, Grows, token, down, refuse_law, choose, weaken, look, kind_local, located, take_law, turn_law, all_turns, relang}
-use Rattle.al_parse_type.specs.Parse.{sees_type_name, other_name, stars_from}
+use Rattle.al_tree.specs.Types.{Leaves, IsOtherName, AreStars, none as no_stars}
+use Rattle.al_tree.specs.Reading.{Parser, ◌>>=◌, kind, same_kind, take_if}
+use Rattle.al_tree.proofs.Law.{World, Family, Lang, Any, Has, Law, Grows, token, down, choose, weaken, look, kind_local, located, take_law, turn_law, all_turns, relang}
+use Rattle.al_parse_type.specs.Parse.{other_name, stars_from}
 use Rattle.al_parse_type.proofs.BoundLaw.{always, kind_is, first_kind, other_law, fresh_token, fresh_is, stars_law}
-use Rattle.al_parse_type.proofs.TypeLaw.{type_name_local, type_name_is}
-use Rattle.al_parse_member.specs.Parameters.{type_name}
 
 pub guard_law : {A R : Type 0} {w : World} {G G' : List Token → Type 0} {p : Family A} {Q : Lang A} → ((ts : List Token) → G' ts → G ts) → Law R w G p Q → Law R w G' p Q
 guard_law f l = record { run = λ rt ts g s. l.run rt ts (f ts g) s; has = l.has }
@@ -48,15 +46,6 @@ ask_law K p q first second = look (λ ts. same_kind (kind ts) K) (λ ts ts' h. a
     (λ e. guard_law (λ ts g. (g.0, g.1 ∙ e)) second))
 
 module _ (leaves : Leaves) (types : List ℕ) where
-  pub type_name_law : {A R : Type 0} {w : World} {G : List Token → Type 0} {Q : Lang A} (f : World → Token → Parser A) → Has Q
-      → ((t : Token) → IsTypeName leaves types t → Law R w Any (λ w. f w t) (λ x a. Q (t ∷ x) a)) → Law R w G (λ w. type_name types >>= f w) Q
-  unfolding type_name
-  type_name_law {A} {R} {w} {G} {Q} f h next = look (sees_type_name types) (type_name_local leaves types) (λ w is ts. and_then ((if is then take_if true else refuse) ts) (f w)) h by
-    where
-      by : (is : Bool) → Law R w (λ ts. G ts × (sees_type_name types ts ≡ is)) (λ w ts. and_then ((if is then take_if true else refuse) ts) (f w)) Q
-      by true = take_law f always (λ m n l e. e) (λ t. IsTypeName leaves types t) (λ t ts g. type_name_is leaves types t ts g.1) h (λ t c. weaken (λ r. r.0) (next t c))
-      by false = refuse_law h
-
   -- there is always a name that is no type's
   pub new_name_law : {A R : Type 0} {w : World} {G : List Token → Type 0} {Q : Lang A} (f : World → Token → Parser A)
       → ((t : Token) → IsOtherName leaves types t → Law R w Any (λ w. f w t) (λ x a. Q (t ∷ x) a)) → Law R w G (λ w. other_name types >>= f w) Q
