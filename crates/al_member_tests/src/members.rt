@@ -20,7 +20,7 @@ enum What {
 
 /// In these texts the names are numbered by where they first stand. Those below the number given are types. Parameters
 /// begin behind the parenthesis that opens.
-static PARTS: [(What, &[u8], u32, Answer); 31] = [
+static PARTS: [(What, &[u8], u32, Answer); 32] = [
     (What::Parameters, b")", 0, Ok(1)),
     (What::Parameters, b"void)", 0, Ok(2)),
     (What::Parameters, b"void*,void*a)", 0, Ok(7)),
@@ -61,7 +61,13 @@ static PARTS: [(What, &[u8], u32, Answer); 31] = [
         What::Parameters,
         b"*a)",
         0,
-        Err((ParseReason::Unexpected, 1)),
+        Err((ParseReason::Unexpected, 0)),
+    ),
+    (
+        What::Parameters,
+        b"A,*b)",
+        1,
+        Err((ParseReason::Unexpected, 3)),
     ),
     (
         What::Parameters,
@@ -195,5 +201,32 @@ fn parts_end_at_these_tokens(rt: HostRuntime) -> Result<(), Fail> {
         let found = answer(&rt, rt.alloc(), what, text, types)?;
         assert!(rt; found == Some(expected), "{text:?}: {found:?}");
     }
+    Ok(())
+}
+
+/// Behind a type's name and a bracket as many parentheses may open as there are levels: a bound still fits behind them, and a type
+/// does not.
+#[test]
+fn parentheses_end_at_the_last_level(rt: HostRuntime) -> Result<(), Fail> {
+    let mut text = [b'('; 403];
+    text[0] = b'A';
+    text[1] = b'[';
+    text[201] = b'3';
+    for i in 202..401 {
+        text[i] = b')';
+    }
+    text[401] = b']';
+    text[402] = b')';
+    let bound = answer(&rt, rt.alloc(), What::Parameters, &text, 1)?;
+    assert!(rt; bound == Some(Ok(403)), "{bound:?}");
+    text[201] = b'(';
+    let parenthesis = answer(&rt, rt.alloc(), What::Parameters, &text, 1)?;
+    assert!(rt;
+        parenthesis == Some(Err((ParseReason::Deep, 201))),
+        "{parenthesis:?}"
+    );
+    text[201] = b'A';
+    let name = answer(&rt, rt.alloc(), What::Parameters, &text, 1)?;
+    assert!(rt; name == Some(Err((ParseReason::Deep, 201))), "{name:?}");
     Ok(())
 }

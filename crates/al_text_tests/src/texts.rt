@@ -19,7 +19,7 @@ fn answer(rt: &impl Abort, alloc: Global, text: &[u8]) -> Result<Option<Answer>,
     })
 }
 
-static TEXTS: [(&[u8], Answer); 72] = [
+static TEXTS: [(&[u8], Answer); 73] = [
     (b"", Ok(0)),
     (b"int a;", Ok(1)),
     (b"int a,*b[3],c=1;", Ok(1)),
@@ -112,7 +112,11 @@ static TEXTS: [(&[u8], Answer); 72] = [
     (b"int a={};", Err((ParseReason::Unexpected, 4))),
     (b"int f(void,int);", Ok(1)),
     (b"int f(int,);", Err((ParseReason::Unexpected, 5))),
-    (b"int f(*a);", Err((ParseReason::Unexpected, 4))),
+    (b"int f(*a);", Err((ParseReason::Unexpected, 3))),
+    (
+        b"aggr A{int a;}int f(*b);",
+        Err((ParseReason::Unexpected, 11)),
+    ),
     (b"int f(){return 1}", Err((ParseReason::Unexpected, 7))),
     (b"void main(){x=;}", Err((ParseReason::Unexpected, 7))),
     (b"void main(){", Err((ParseReason::EndOfText, 5))),
