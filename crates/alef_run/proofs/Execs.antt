@@ -1,5 +1,5 @@
 -- From what the stages of `exec` say to why it ends as it does.
-use Rattle.std.proofs.Common.{◌≡◌, ℕ, List, [], Option, Some, None, refl, sym, ap, ap₂, ◌∙◌, subst, inl, inr}
+use Rattle.std.proofs.Common.{◌≡◌, ℕ, List, [], Option, Some, None, refl, sym, ap, ◌∙◌, subst, inl, inr}
 use Rattle.al_event.specs.declared.entry.Entry.{Entry}
 use Rattle.al_words.specs.declared.job.Job.{Job}
 use Rattle.rv_isa.specs.declared.image.Contents.{Contents}
@@ -9,7 +9,7 @@ use Rattle.al_core.specs.History.{History, opening, line_of, work_of}
 use Rattle.alef_run.specs.Call.{Call, WasRead, DidNothing, text_in}
 use Rattle.alef_run.specs.Load.{LacksImage}
 use Rattle.alef_run.specs.Rounds.{history_along, IsLegal, RanTo}
-use Rattle.alef_run.specs.ExecMode.{DidExec, EndsExec, comes_to}
+use Rattle.alef_run.specs.ExecMode.{DidExec, EndsExec}
 use Rattle.alef_run.specs.Modes.{line_by}
 use Rattle.alef_run.specs.declared.report.End.{End}
 use Rattle.alef_run.specs.declared.report.End.TheVariants.{Ran, Made, Words, ReadFault, Refused, BadImage, BadSchedule, BadEntry, BadNumber, WriteFault, NoMemory, TooLarge}

@@ -1,5 +1,5 @@
 -- The mode `step`: from what its stages say to why it ends as it does.
-use Rattle.std.proofs.Common.{◌≡◌, ℕ, ◌+◌, ◌^◌, ◌<◌, ◌≤◌, List, length, take, Option, Some, None, Result, Ok, Err, refl, sym, ap, ◌∙◌, subst, arith, inl, inr}
+use Rattle.std.proofs.Common.{◌≡◌, ℕ, ◌+◌, ◌^◌, ◌≤◌, List, length, take, Option, Some, None, Result, Ok, Err, refl, sym, ap, ◌∙◌, subst, arith, inl, inr}
 use Rattle.std.specs.Prelude.{◌⊎◌, IfOk}
 use Rattle.std.proofs.lemmas.List.{take_all}
 use Rattle.al_event.specs.declared.entry.Entry.{Entry}
@@ -21,7 +21,6 @@ use Rattle.alef_run.specs.Load.{KeepsTexts, LacksBytes, IsScheduleRead, LacksSch
 use Rattle.alef_run.specs.StepMode.{EndsStep, EndsShow, HasText, HasBoth, HasNoSchedule, MadeNothing, IsProgramRead, IsFound, bytes_of_region, first_of, made_of, end_of_walk}
 use Rattle.alef_run.specs.declared.report.End.{End}
 use Rattle.alef_run.specs.declared.report.End.TheVariants.{Ran, Made, Words, ReadFault, Refused, BadImage, BadSchedule, BadEntry, BadNumber, WriteFault, NoMemory, TooLarge}
-use Rattle.alef_run.specs.declared.report.Refused.TheVariants.{Text}
 use Rattle.alef_run.proofs.Checks.{accepted_whole, refused_whole}
 
 -- ---- texts that stay

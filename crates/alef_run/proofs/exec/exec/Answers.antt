@@ -1,4 +1,4 @@
-use Rattle.std.proofs.Common.{◌≡◌, ℕ, List, Some, sym, ap, ◌∙◌, subst}
+use Rattle.std.proofs.Common.{◌≡◌, ℕ, List, Some, sym, subst}
 use Rattle.alef_run.specs.Call.{Call, call_by, IsRead, text_in}
 use Rattle.alef_run.specs.ExecMode.{EndsExec}
 use Rattle.alef_run.specs.declared.report.End.{End}

@@ -1,4 +1,4 @@
-use Rattle.std.proofs.Common.{◌≡◌, ℕ, List, length, take, refl, ap, ◌∙◌}
+use Rattle.std.proofs.Common.{◌≡◌, ℕ, length, take, refl, ap, ◌∙◌}
 use Rattle.alef_run.proofs.Stages.{no_image, form_read, build_failed, did_run, finished}
 use Rattle.alef_run.proofs.first_form.run.Goals as goal
 
