@@ -1,12 +1,12 @@
 -- What a declaration begins with, in one way to read it.
-use Rattle.std.proofs.Common.{◌≡◌, ℕ, zero, suc, pred, ◌<◌, ◌==◌, ◌⊎◌, inl, inr, ◌≢◌, Bool, true, false, if◌then◌else◌, List, [], ◌∷◌, ◌++◌, length, Option, Some, None, Ok, Err, refl, sym, ap, ◌∙◌, subst, arith, length-append}
+use Rattle.std.proofs.Common.{◌≡◌, ℕ, suc, pred, ◌<◌, ◌==◌, ◌⊎◌, inl, inr, ◌≢◌, Bool, true, false, if◌then◌else◌, List, [], ◌∷◌, ◌++◌, length, Option, Some, None, Ok, Err, refl, sym, ap, ◌∙◌, arith, length-append}
 use Rattle.std.proofs.lemmas.Bool.Decides.{eqb_tells}
 use Rattle.al_base.specs.declared.place.Place.{Place}
 use Rattle.al_lex.specs.declared.kind.TokenKind.TheVariants as k
 use Rattle.al_lex.specs.declared.token.Token.{Token}
 use Rattle.al_tree.specs.Words.{start}
 use Rattle.al_tree.specs.Types.{Leaves, with_names}
-use Rattle.al_tree.specs.Items.{Declared, parameters_of}
+use Rattle.al_tree.specs.Items.{Declared}
 use Rattle.al_tree.specs.Reading.{Outcome, Parser, and_then, ◌>>=◌, pure, refuse, kind, name_number, same_kind, take_if}
 use Rattle.al_tree.specs.declared.cursor.ParseError.{ParseError}
 use Rattle.al_tree.proofs.Law.{Any, some_pred}
@@ -18,14 +18,14 @@ use Rattle.al_parse_type.proofs.TypeLaw.{LBase}
 use Rattle.al_parse_member.specs.Parameters.{type_name}
 use Rattle.al_parse_member.proofs.ParameterSound.{bases}
 use Rattle.al_parse_stmt.specs.declared.heads.FirstName.{FirstName}
-use Rattle.al_parse_stmt.specs.Ahead.{some_parameters, owner_ahead, owner_of, inside_of}
+use Rattle.al_parse_stmt.specs.Ahead.{owner_ahead, owner_of, inside_of}
 use Rattle.al_parse_stmt.specs.Begun as parse
 use Rattle.al_parse_stmt.specs.Begun.{Begun, lends, may_be, agrees, first_name, new_name, begins, begun_as}
 use Rattle.al_parse_stmt.specs.Heads as heads
 use Rattle.al_parse_stmt.specs.Heads.{SizedDeclarator, declarator, declarator_after}
 use Rattle.al_parse_stmt.proofs.Balanced.{passes}
 use Rattle.al_parse_stmt.proofs.Facts.{never_ok}
-use Rattle.al_parse_stmt.proofs.HeadSound.{owner_behind, owner_at}
+use Rattle.al_parse_stmt.proofs.Owners.{owner_behind, owner_at}
 
 pub same_read : {A : Type 0} (x y : A × List Token) → ◌≡◌ {A = Outcome A} (Ok x) (Ok y) → x ≡ y
 same_read x y h = cc

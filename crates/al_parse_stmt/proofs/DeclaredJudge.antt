@@ -1,7 +1,7 @@
-use Rattle.std.proofs.Common.{◌≡◌, ℕ, ◌≤◌, List, ◌++◌, Option}
+use Rattle.std.proofs.Common.{◌≡◌, ◌≤◌, List, ◌++◌, Option}
 use Rattle.al_base.specs.declared.place.Place.{Place}
 use Rattle.al_lex.specs.declared.token.Token.{Token}
-use Rattle.al_tree.proofs.Law.{World, Any}
+use Rattle.al_tree.proofs.Law.{World}
 use Rattle.al_tree.specs.Words.{start}
 use Rattle.al_tree.specs.Types.{Leaves}
 use Rattle.al_tree.specs.Items.{Declared, IsScope}

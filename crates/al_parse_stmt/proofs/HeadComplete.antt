@@ -30,7 +30,7 @@ use Rattle.al_parse_block.proofs.ValueComplete.{before_semicolon}
 use Rattle.al_parse_member.proofs.MemberComplete.{initializer_c, initializer_high}
 use Rattle.al_parse_stmt.specs.Heads as parse
 use Rattle.al_parse_stmt.specs.Heads.{SizedDeclarator, Declarators, headed, declarator}
-use Rattle.al_parse_stmt.proofs.HeadSound.{same_start, inside_behind, inside_bracket, inside_dot, inside_other, reads_type_name}
+use Rattle.al_parse_stmt.proofs.Owners.{same_start, inside_behind, inside_bracket, inside_dot, inside_other, reads_type_name}
 
 -- what stands behind a declarator
 abbrev pub Follow : List Token → Type 0

@@ -31,7 +31,7 @@ use Rattle.al_parse_stmt.specs.Begun.{lends, may_be, agrees}
 use Rattle.al_parse_stmt.specs.Heads as parse
 use Rattle.al_parse_stmt.specs.Heads.{SizedDeclarator, Declarators, headed}
 use Rattle.al_parse_stmt.proofs.KeptNames.{still_known}
-use Rattle.al_parse_stmt.proofs.HeadSound.{same_start}
+use Rattle.al_parse_stmt.proofs.Owners.{same_start}
 use Rattle.al_parse_stmt.proofs.Declared.{NameIs}
 use Rattle.al_parse_stmt.proofs.LawSteps.{fact_law, guard_law, taken_law, next_law, next_turn_law, ask_law, new_name_law, all_stars, Placed, placed_law, some_tokens}
 

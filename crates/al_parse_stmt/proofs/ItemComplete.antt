@@ -48,7 +48,7 @@ use Rattle.al_parse_stmt.specs.Heads.{SizedDeclarator, new_names_from, declarato
 use Rattle.al_parse_stmt.specs.Parse as parse
 use Rattle.al_parse_stmt.specs.Parse.{ReadItem, built}
 use Rattle.al_parse_stmt.proofs.Facts.{never_ok, start_behind}
-use Rattle.al_parse_stmt.proofs.HeadSound.{same_start, owner_at, inside_behind, inside_at}
+use Rattle.al_parse_stmt.proofs.Owners.{same_start, owner_at, inside_behind, inside_at}
 use Rattle.al_parse_stmt.proofs.Begins.{tie as name_tie, owner_is, from_parts}
 use Rattle.al_parse_stmt.proofs.HeadComplete.{Follow, no_brace, semicolon_follows, not_kind, is_kind, reads_other_name, whole_new_names, head_c, declarator_c, declarators_c, end_declarators, inside_declarators, inside_function, head_begins, declarators_begin}
 

@@ -1,6 +1,5 @@
 -- What is said of the fault of an item.
-use Rattle.std.proofs.Common.{◌≡◌, ℕ, ◌≤◌, true, List, [], ◌∷◌, ◌++◌, Option, Some, None, refl, ap, ◌∙◌}
-use Rattle.al_base.specs.declared.place.Place.{Place}
+use Rattle.std.proofs.Common.{◌≡◌, ◌≤◌, List, [], ◌∷◌, Option, Some, None, refl, ap, ◌∙◌}
 use Rattle.al_lex.specs.declared.kind.TokenKind.{TokenKind}
 use Rattle.al_lex.specs.declared.kind.TokenKind.TheVariants as k
 use Rattle.al_lex.specs.declared.token.Token.{Token}
@@ -8,7 +7,7 @@ use Rattle.al_tree.specs.Words.{start, scope_word}
 use Rattle.al_tree.specs.Types.{Leaves}
 use Rattle.al_tree.specs.Items.{Declared}
 use Rattle.al_tree.specs.Items as items
-use Rattle.al_tree.specs.Reading.{◌>>=◌, kind, take_if}
+use Rattle.al_tree.specs.Reading.{◌>>=◌, kind}
 use Rattle.al_tree.specs.declared.item.Scope.{Scope}
 use Rattle.al_tree.specs.declared.item.AggregateKind.TheVariants as ag
 use Rattle.al_tree.proofs.Law.{World, Any, Has, kind_local, start_local}

@@ -42,7 +42,7 @@ use Rattle.al_parse_stmt.specs.Heads.{SizedDeclarator, new_names_from, declarato
 use Rattle.al_parse_stmt.specs.Parse as parse
 use Rattle.al_parse_stmt.specs.Parse.{ReadItem, built}
 use Rattle.al_parse_stmt.proofs.Facts.{start_behind}
-use Rattle.al_parse_stmt.proofs.HeadSound.{same_start}
+use Rattle.al_parse_stmt.proofs.Owners.{same_start}
 use Rattle.al_parse_stmt.proofs.Declared.{IsBegun, Agrees, OwnerFits}
 use Rattle.al_parse_stmt.proofs.LawSteps.{guard_law, taken_law, next_law, ask_law, new_name_law, all_stars, Placed, placed_law, some_tokens}
 use Rattle.al_parse_stmt.proofs.HeadLaw.{new_names_law, declarator_after_law, declarators_law}

@@ -1,9 +1,9 @@
 -- What the outcome of a parser says of the tokens, where it reads them in several ways and so keeps no `Law`.
-use Rattle.std.proofs.Common.{◌≡◌, ℕ, zero, suc, ◌<◌, List, [], ◌∷◌, ◌++◌, length, true, Result, Ok, Err, refl, sym, ap, ◌∙◌, subst, arith, append-nil}
+use Rattle.std.proofs.Common.{◌≡◌, ℕ, zero, suc, ◌<◌, List, [], ◌∷◌, ◌++◌, length, true, Ok, Err, refl, sym, ap, ◌∙◌, subst, arith, append-nil}
 use Rattle.al_lex.specs.declared.token.Token.{Token}
 use Rattle.al_tree.specs.declared.cursor.ParseError.TheVariants.{NoMemory, Stuck, Deep}
 use Rattle.al_tree.specs.Reading.{Outcome, Parser, ◌>>=◌, take_if}
-use Rattle.al_tree.proofs.Law.{World, Above, Family, Lang, Any, Has, ReadAt, StuckAt, DeepAt, Verdict, Law, head}
+use Rattle.al_tree.proofs.Law.{World, Above, Family, Lang, Any, Has, ReadAt, StuckAt, Verdict, Law, head}
 use Rattle.al_parse_member.proofs.Steady.{IsErr, same_head}
 
 -- no list is read that begins with the tokens up to the one that is refused, with however many levels

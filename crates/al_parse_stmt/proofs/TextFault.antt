@@ -1,7 +1,6 @@
 -- The fault that the parser of whole texts tells.
-use Rattle.std.proofs.Common.{◌≡◌, ◌≢◌, ℕ, zero, suc, pred, ◌+◌, ◌-◌, ◌<◌, ◌≤◌, ◌==◌, max, Bool, true, false, if◌then◌else◌, List, [], ◌∷◌, ◌++◌, length, slice_get, Some, Ok, Err, refl, sym, ap, ◌∙◌, subst, arith, append_assoc, length-append}
+use Rattle.std.proofs.Common.{◌≡◌, ◌≢◌, ℕ, zero, suc, ◌+◌, ◌-◌, ◌<◌, ◌≤◌, ◌==◌, if◌then◌else◌, List, [], ◌∷◌, ◌++◌, length, slice_get, Some, Err, refl, sym, ap, ◌∙◌, subst, arith, append_assoc, length-append}
 use Rattle.std.proofs.Math.Dec.{eqb-suc-zero}
-use Rattle.al_base.specs.declared.place.Place.{Place}
 use Rattle.al_lex.specs.declared.token.Token.{Token}
 use Rattle.al_lex.specs.TokenList.{TokenList}
 use Rattle.al_tree.specs.Leaves.{leaves_of, names_from}
@@ -17,12 +16,12 @@ use Rattle.al_tree.specs.declared.fault.ParseReason.{ParseReason}
 use Rattle.al_tree.specs.declared.fault.ParseReason.TheVariants as reason
 use Rattle.al_tree.specs.declared.fault.ParseStop.TheVariants as stop
 use Rattle.al_tree.specs.declared.item.Tree.{Tree}
-use Rattle.al_tree.proofs.Law.{World, Above, Family, Has}
+use Rattle.al_tree.proofs.Law.{World, Above, Family}
 use Rattle.al_tree.proofs.Verdicts.{world}
 use Rattle.al_parse_member.proofs.Steady.{IsErr}
 use Rattle.al_parse_stmt.specs.Parse as parse
 use Rattle.al_parse_stmt.proofs.ItemComplete.{text_c}
-use Rattle.al_parse_stmt.proofs.TextJudge.{Sized, More, Faults, text_faults}
+use Rattle.al_parse_stmt.proofs.TextJudge.{Sized, More, JudgedText, text_judged}
 
 seen_at : (u : List Token) (t : Token) (more : List Token) → slice_get (u ++ t ∷ more) (length u) ≡ Some t
 seen_at [] t more = refl
@@ -96,7 +95,7 @@ module _ (toks : TokenList) (list : List Token) (tokens : TokensFrom toks 0 list
   same_fault why i f h = cc
 
   -- the fault of each outcome
-  told : (F : ℕ) → length list < F → (e : ParseError) → Faults (world F 199) P (More L []) list (Err e) → (f : ParseFault) → stop_of toks e ≡ stop.Fault f → IsParseFault toks f
+  told : (F : ℕ) → length list < F → (e : ParseError) → JudgedText (world F 199) P (More L []) list (Err e) → (f : ParseFault) → stop_of toks e ≡ stop.Fault f → IsParseFault toks f
   unfolding stop_of
   told F short NoMemory v f g = absurd v
   told F short (Stuck zero) v f g =
@@ -156,4 +155,4 @@ module _ (toks : TokenList) (list : List Token) (tokens : TokensFrom toks 0 list
   pub fault_error : (F : ℕ) → length list < F → (e : ParseError) → (e ≢ NoMemory → parse.text_items L F 199 list ≡ Err e) → (f : ParseFault) → stop_of toks e ≡ stop.Fault f → IsParseFault toks f
   fault_error F short e reads f g =
       let read = reads (λ h. let both : stop.NoMemory ≡ stop.Fault f = sym (memory_stops e h) ∙ g in let z : ⊥ = cc in z) in
-      told F short e (subst (Faults (world F 199) P (More L []) list) read (text_faults L F 199 list short)) f g
+      told F short e (subst (JudgedText (world F 199) P (More L []) list) read (text_judged L F 199 list short)) f g

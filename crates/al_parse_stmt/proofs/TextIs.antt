@@ -15,11 +15,12 @@ use Rattle.al_tree.specs.Tree.{limit}
 use Rattle.al_tree.specs.declared.item.Item.{Item}
 use Rattle.al_tree.specs.declared.item.Tree.{Tree}
 use Rattle.al_tree.proofs.PartVerdicts.{one_list}
+use Rattle.al_tree.proofs.Verdicts.{world}
 use Rattle.al_parse_stmt.specs.Calls.{IsText}
-use Rattle.al_parse_stmt.specs.Parse.{text_items}
+use Rattle.al_parse_stmt.specs.Parse.{items_from, text_items}
 use Rattle.al_parse_stmt.proofs.Facts.{never_ok}
-use Rattle.al_parse_stmt.proofs.ItemSound.{text_sound}
 use Rattle.al_parse_stmt.proofs.ItemComplete.{text_c}
+use Rattle.al_parse_stmt.proofs.TextJudge.{More, JudgedText, text_judged}
 
 module _ (toks : TokenList) (list : List Token) (tokens : TokensFrom toks 0 list) where
   abbrev L : Leaves
@@ -29,9 +30,8 @@ module _ (toks : TokenList) (list : List Token) (tokens : TokensFrom toks 0 list
   all = tokens.«from»
 
   pub text_is : (F : ℕ) (xs : List Item) (h : ℕ) (r : List Token) → length list < F → text_items L F 199 list ≡ Ok ((xs, h), r) → h ≤ limit → (names : List (List ℕ)) → names ≡ names_from toks.text [] list → IsText toks (record { names = names; items = xs })
-  unfolding text_items
   text_is F xs h r short e low names n =
-      let q = text_sound L F 199 F nothing_declared [] [] 0 items.none list short xs h r e in
+      let q = subst (JudgedText (world F 199) (λ w. items_from L w.turns w.depth w.fuel nothing_declared [] 0) (More L []) list) e (text_judged L F 199 list short) in
       record {
         height = h;
         low = low;
@@ -40,8 +40,8 @@ module _ (toks : TokenList) (list : List Token) (tokens : TokensFrom toks 0 list
           last = tokens.last;
           is = tokens.is;
           tree_of = record {
-            declared = q.declared;
-            items = subst (λ z. IsItems L z xs q.declared h) all q.is;
+            declared = q.1.after;
+            items = subst (λ z. IsItems L z xs q.1.after h) all q.1.is;
             names = n ∙ ap (names_from toks.text []) all;
           };
         };

@@ -1,15 +1,15 @@
--- The faults of whole texts.
-use Rattle.std.proofs.Common.{◌≡◌, ◌≢◌, ℕ, zero, suc, pred, ◌+◌, ◌-◌, ◌<◌, ◌≤◌, ◌==◌, max, Bool, true, false, if◌then◌else◌, List, [], ◌∷◌, ◌++◌, length, slice_get, Some, Ok, Err, refl, sym, ap, ap₂, ◌∙◌, subst, arith, append_assoc, append-nil, length-append}
+-- What the outcome of the parser of whole texts says of the tokens.
+use Rattle.std.proofs.Common.{◌≡◌, ℕ, zero, suc, pred, ◌+◌, ◌-◌, ◌<◌, ◌≤◌, max, false, List, [], ◌∷◌, ◌++◌, length, Ok, Err, refl, sym, ap, ◌∙◌, subst, arith, append_assoc, append-nil, length-append}
 use Rattle.al_lex.specs.declared.token.Token.{Token}
 use Rattle.al_tree.specs.Types.{Leaves}
-use Rattle.al_tree.specs.Items.{Declared, nothing_declared, IsItem, IsItems}
+use Rattle.al_tree.specs.Items.{Declared, nothing_declared, IsItems}
 use Rattle.al_tree.specs.Items as items
 use Rattle.al_tree.specs.Reading.{Outcome, Parser, and_then}
 use Rattle.al_tree.specs.declared.cursor.ParseError.{ParseError}
 use Rattle.al_tree.specs.declared.cursor.ParseError.TheVariants.{NoMemory, Stuck, Deep}
 use Rattle.al_tree.specs.declared.item.Item.{Item}
 use Rattle.al_tree.proofs.Verdicts.{world}
-use Rattle.al_tree.proofs.Law.{World, Above, Family, Lang, Any, Has, ReadAt, head, down, down_above, some_pred}
+use Rattle.al_tree.proofs.Law.{World, Above, Family, Lang, Has, ReadAt, head, down, down_above, some_pred}
 use Rattle.al_parse_member.proofs.Steady.{IsErr, same_head, err_then}
 use Rattle.al_parse_stmt.specs.Parse as parse
 use Rattle.al_parse_stmt.specs.Parse.{ReadItem}
@@ -17,16 +17,16 @@ use Rattle.al_parse_stmt.proofs.ItemLaw.{LItem}
 use Rattle.al_parse_stmt.proofs.ItemComplete.{item_long}
 use Rattle.al_parse_stmt.proofs.ItemJudge.{item_judge}
 use Rattle.al_parse_stmt.proofs.FitsKept.{AdtsFit, nothing_fits, after_fits}
-use Rattle.al_parse_stmt.proofs.Judge.{Judge, Judged, RefusedAt, EndedAt, TooDeepAt}
+use Rattle.al_parse_stmt.proofs.Judge.{Judged}
 
 -- a list of items, with its height
 abbrev pub Sized : Type 0
 Sized = List Item × ℕ
 
--- what is said of the fault of a parser that reads on behind some items
-abbrev pub Faults : World → Family Sized → Lang Sized → List Token → Outcome Sized → Type 0
-Faults w p Q ts (Ok x) = Unit {0}
-Faults w p Q ts (Err e) = Judged w p Q ts (Err e)
+-- what the outcome of a parser says that reads all tokens
+abbrev pub JudgedText : World → Family Sized → Lang Sized → List Token → Outcome Sized → Type 0
+JudgedText w p Q ts (Ok x) = (x.1 ≡ []) × Q ts x.0
+JudgedText w p Q ts (Err e) = Judged w p Q ts (Err e)
 
 not_end : (u : List Token) (t : Token) (more : List Token) → parse.at_end (u ++ t ∷ more) ≡ false
 not_end [] t more = refl
@@ -113,8 +113,8 @@ module _ (leaves : Leaves) where
       grouped : (z : List Token) → (u ++ v.used) ++ z ≡ u ++ (v.used ++ z)
       grouped z = append_assoc u v.used z
 
-      behind_item : (o : Outcome Sized) → parse.at_end ts ≡ false → Faults (down w) rest_of (More (u ++ v.used)) r o → Faults w (loop d xs h) (More u) ts o
-      behind_item (Ok y) e c = tt
+      behind_item : (o : Outcome Sized) → parse.at_end ts ≡ false → JudgedText (down w) rest_of (More (u ++ v.used)) r o → JudgedText w (loop d xs h) (More u) ts o
+      behind_item (Ok y) e c = (c.0, record { after = c.1.after; is = subst (λ l. IsItems leaves l y.0.0 c.1.after y.0.1) (grouped r ∙ ap (λ l. u ++ l) (sym v.cut)) c.1.is })
       behind_item (Err NoMemory) e c = absurd c
       behind_item (Err (Stuck zero)) e c = record {
         none = λ w' ab. subst (λ l. IsErr (loop d xs h w' l)) (sym v.cut) (passed w' ab r refl (ap parse.at_end (sym v.cut) ∙ e) (c.none (down w') (down_above w w' ab)));
@@ -151,11 +151,11 @@ module _ (leaves : Leaves) where
 
   -- ---- all items
 
-  abbrev AllFaults : ℕ → Type 0
-  AllFaults m = (w : World) → w.fuel ≡ m → w.fuel ≤ w.turns → (d : Declared) → AdtsFit d → (u : List Token) (xs : List Item) (h : ℕ) → IsItems leaves u xs d h → (ts : List Token) → length ts < w.fuel → Faults w (loop d xs h) (More u) ts (loop d xs h w ts)
+  abbrev AllJudged : ℕ → Type 0
+  AllJudged m = (w : World) → w.fuel ≡ m → w.fuel ≤ w.turns → (d : Declared) → AdtsFit d → (u : List Token) (xs : List Item) (h : ℕ) → IsItems leaves u xs d h → (ts : List Token) → length ts < w.fuel → JudgedText w (loop d xs h) (More u) ts (loop d xs h w ts)
 
-  by_item : (m : ℕ) → AllFaults m → (w : World) → w.fuel ≡ suc m → w.fuel ≤ w.turns → (d : Declared) → AdtsFit d → (u : List Token) (xs : List Item) (h : ℕ) → IsItems leaves u xs d h → (ts : List Token) → parse.at_end ts ≡ false → length ts < w.fuel
-      → (o : Outcome ReadItem) → Judged w (λ w. parse.one_item leaves w.turns w.depth d) (LItem leaves d) ts o → Faults w (loop d xs h) (More u) ts (and_then o (behind w xs h))
+  by_item : (m : ℕ) → AllJudged m → (w : World) → w.fuel ≡ suc m → w.fuel ≤ w.turns → (d : Declared) → AdtsFit d → (u : List Token) (xs : List Item) (h : ℕ) → IsItems leaves u xs d h → (ts : List Token) → parse.at_end ts ≡ false → length ts < w.fuel
+      → (o : Outcome ReadItem) → Judged w (λ w. parse.one_item leaves w.turns w.depth d) (LItem leaves d) ts o → JudgedText w (loop d xs h) (More u) ts (and_then o (behind w xs h))
   by_item m go w e fits d f u xs h l ts some s (Ok x) v =
       let long : 0 < length v.used = item_long leaves w.turns w.depth d v.is in
       behind_item w m (omega (arith, e)) d u xs h l ts x.0 x.1 v (loop x.0.after (xs ++ x.0.item ∷ []) (max h x.0.height) (down w) x.1) some
@@ -167,14 +167,14 @@ module _ (leaves : Leaves) where
       down_less (suc a) b h = omega (arith, h)
   by_item m go w e fits d f u xs h l ts some s (Err x) v = no_item w m (omega (arith, e)) d u xs h l ts x some v
 
-  all_faults : (m : ℕ) → AllFaults m
-  all_faults zero w e fits d f u xs h l ts s = absurd (omega (arith, e, s))
-  all_faults (suc m) w e fits d f u xs h l [] s = subst (Faults w (loop d xs h) (More u) []) (sym (none_left w m d xs h (omega (arith, e)))) tt
-  all_faults (suc m) w e fits d f u xs h l (t ∷ ts) s =
-      subst (Faults w (loop d xs h) (More u) (t ∷ ts)) (sym (unrolled w m d xs h (t ∷ ts) (omega (arith, e)) refl))
-      (by_item m (all_faults m) w e fits d f u xs h l (t ∷ ts) refl s (parse.one_item leaves w.turns w.depth d (t ∷ ts)) ((item_judge leaves d f (w.fuel ≤ w.turns) w (λ r. r)).run fits (t ∷ ts) tt s))
+  all_judged : (m : ℕ) → AllJudged m
+  all_judged zero w e fits d f u xs h l ts s = absurd (omega (arith, e, s))
+  all_judged (suc m) w e fits d f u xs h l [] s = subst (JudgedText w (loop d xs h) (More u) []) (sym (none_left w m d xs h (omega (arith, e)))) (refl, record { after = d; is = subst (λ v. IsItems leaves v xs d h) (sym (append-nil u)) l })
+  all_judged (suc m) w e fits d f u xs h l (t ∷ ts) s =
+      subst (JudgedText w (loop d xs h) (More u) (t ∷ ts)) (sym (unrolled w m d xs h (t ∷ ts) (omega (arith, e)) refl))
+      (by_item m (all_judged m) w e fits d f u xs h l (t ∷ ts) refl s (parse.one_item leaves w.turns w.depth d (t ∷ ts)) ((item_judge leaves d f (w.fuel ≤ w.turns) w (λ r. r)).run fits (t ∷ ts) tt s))
 
-  -- the fault of all tokens of a text
-  pub text_faults : (F n : ℕ) (ts : List Token) → length ts < F → Faults (world F n) (λ w. parse.items_from leaves w.turns w.depth w.fuel nothing_declared [] 0) (More []) ts (parse.text_items leaves F n ts)
+  -- all tokens of a text
+  pub text_judged : (F n : ℕ) (ts : List Token) → length ts < F → JudgedText (world F n) (λ w. parse.items_from leaves w.turns w.depth w.fuel nothing_declared [] 0) (More []) ts (parse.text_items leaves F n ts)
   unfolding parse.text_items
-  text_faults F n ts s = all_faults F (world F n) refl (omega arith) nothing_declared nothing_fits [] [] 0 items.none ts s
+  text_judged F n ts s = all_judged F (world F n) refl (omega arith) nothing_declared nothing_fits [] [] 0 items.none ts s
