@@ -1,14 +1,7 @@
-pub mod Sound
 pub mod Steps
 pub mod InitializerIs
 pub mod ParameterLaw
-pub mod ParameterSound
 pub mod ParameterComplete
 pub mod InitializerLaw
 pub mod MemberLaw
-pub mod MemberSound
 pub mod MemberComplete
-pub mod Steady
-pub mod Past
-pub mod ParameterSteady
-pub mod MemberSteady

@@ -1,5 +1,5 @@
 -- What a declaration begins with, in one way to read it.
-use Rattle.std.proofs.Common.{◌≡◌, ℕ, suc, pred, ◌<◌, ◌==◌, ◌⊎◌, inl, inr, ◌≢◌, Bool, true, false, if◌then◌else◌, List, [], ◌∷◌, ◌++◌, length, Option, Some, None, Ok, Err, refl, sym, ap, ◌∙◌, arith, length-append}
+use Rattle.std.proofs.Common.{◌≡◌, ℕ, suc, pred, ◌<◌, ◌==◌, ◌⊎◌, inl, inr, ◌≢◌, Bool, true, false, if◌then◌else◌, List, [], ◌∷◌, ◌++◌, length, Option, Some, None, Ok, Err, refl, sym, ap, ◌∙◌, subst, arith, length-append}
 use Rattle.std.proofs.lemmas.Bool.Decides.{eqb_tells}
 use Rattle.al_base.specs.declared.place.Place.{Place}
 use Rattle.al_lex.specs.declared.kind.TokenKind.TheVariants as k
@@ -9,14 +9,15 @@ use Rattle.al_tree.specs.Types.{Leaves, with_names}
 use Rattle.al_tree.specs.Items.{Declared}
 use Rattle.al_tree.specs.Reading.{Outcome, Parser, and_then, ◌>>=◌, pure, refuse, kind, name_number, same_kind, take_if}
 use Rattle.al_tree.specs.declared.cursor.ParseError.{ParseError}
-use Rattle.al_tree.proofs.Law.{Any, some_pred}
+use Rattle.al_tree.proofs.Verdicts.{world}
+use Rattle.al_tree.proofs.Law.{Any, Verdict, some_pred}
 use Rattle.al_parse_type.specs.declared.part.ReadBase.{ReadBase}
 use Rattle.al_parse_type.specs.Parse.{sees_type_name, sees_other_name, other_name, stars_from}
 use Rattle.al_parse_type.specs.Within.{base_within}
 use Rattle.al_parse_type.proofs.BoundLaw.{kind_is}
 use Rattle.al_parse_type.proofs.TypeLaw.{LBase}
+use Rattle.al_parse_type.proofs.BaseWhole.{base_within_law}
 use Rattle.al_parse_member.specs.Parameters.{type_name}
-use Rattle.al_parse_member.proofs.ParameterSound.{bases}
 use Rattle.al_parse_stmt.specs.declared.heads.FirstName.{FirstName}
 use Rattle.al_parse_stmt.specs.Ahead.{owner_ahead, owner_of, inside_of}
 use Rattle.al_parse_stmt.specs.Begun as parse
@@ -48,7 +49,7 @@ no_name : (types : List ℕ) (r : List Token) → sees_type_name types r ≡ fal
 unfolding type_name
 no_name types r f = rw f refl
 
-never_seen : (types : List ℕ) → sees_type_name types [] ≡ true → ⊥
+pub never_seen : (types : List ℕ) → sees_type_name types [] ≡ true → ⊥
 unfolding sees_type_name kind same_kind
 never_seen types f = cc
 
@@ -72,11 +73,11 @@ module _ (d : Declared) (F : ℕ) where
 
   -- ---- how a beginning is read
 
-  begins_no : (owner : Option ℕ) (l : List Token) (x : ParseError) → stars_from F 0 l ≡ Err x → begins d F owner l ≡ Err x
+  pub begins_no : (owner : Option ℕ) (l : List Token) (x : ParseError) → stars_from F 0 l ≡ Err x → begins d F owner l ≡ Err x
   unfolding begins
   begins_no owner l x e = rw e refl
 
-  begins_new : (owner : Option ℕ) (l r : List Token) (s : ℕ) → stars_from F 0 l ≡ Ok (s, r) → sees_type_name d.types r ≡ false → begins d F owner l ≡ new_name d F owner owner (start l) s r
+  pub begins_new : (owner : Option ℕ) (l r : List Token) (s : ℕ) → stars_from F 0 l ≡ Ok (s, r) → sees_type_name d.types r ≡ false → begins d F owner l ≡ new_name d F owner owner (start l) s r
   unfolding begins
   begins_new owner l r s e f = rw (e, f) refl
 
@@ -94,7 +95,7 @@ module _ (d : Declared) (F : ℕ) where
   lender_is owner at s a r true c = rw c refl
   lender_is owner at s a r false c = rw c refl
 
-  begins_adt : (owner : Option ℕ) (l r : List Token) (s : ℕ) (a : Token) → stars_from F 0 l ≡ Ok (s, a ∷ r) → sees_type_name d.types (a ∷ r) ≡ true
+  pub begins_adt : (owner : Option ℕ) (l r : List Token) (s : ℕ) (a : Token) → stars_from F 0 l ≡ Ok (s, a ∷ r) → sees_type_name d.types (a ∷ r) ≡ true
       → begins d F owner l ≡ (if may_be owner a.name then (if agrees owner (lent a r) then Ok (first_name (start l) s a true, r) else refuse r) else refuse (a ∷ r))
   begins_adt owner l r s a e f = to_adt owner l r s a e f ∙ adt_is owner (start l) s a r (may_be owner a.name) refl
       ∙ ap (λ z. if may_be owner a.name then z else refuse (a ∷ r)) (lender_is owner (start l) s a r (agrees owner (lent a r)) refl)
@@ -245,7 +246,7 @@ module _ (leaves : Leaves) (F n : ℕ) (d : Declared) where
   pub found : (owner : Option ℕ) (ts : List Token) (y : Begun) (r : List Token) → length ts < F → begun_as leaves F n d owner ts ≡ Ok (y, r) → owner_of d F ts ≡ owner
   found owner ts y r s h =
       let p = parts_of owner ts y r h in
-      let v = (bases leaves (types_as owner) F n {G = Any}).run ts tt s y.0 p.behind p.base in
+      let v = subst (Verdict (world F n) (λ w. base_within leaves (types_as owner) w.turns w.depth) (LBase leaves (types_as owner) true) ts) p.base ((base_within_law leaves (types_as owner) (Unit {0}) (world F n) Any (λ _. omega arith)).run tt ts tt s) in
       ap (owner_of d F) v.cut
       ∙ owner_is (types_as owner) v.used y.0 p.behind v.is (omega (arith, s, ap length v.cut, length-append v.used p.behind)) (begins_open d F owner p.behind y.1 r (omega (arith, s)) p.name)
       ∙ begins_owner d F owner p.behind y.1 r p.name

@@ -4,7 +4,7 @@ use Rattle.al_lex.specs.declared.token.Token.{Token}
 use Rattle.al_tree.specs.declared.cursor.ParseError.TheVariants.{NoMemory, Stuck, Deep}
 use Rattle.al_tree.specs.Reading.{Outcome, Parser, ◌>>=◌, take_if}
 use Rattle.al_tree.proofs.Law.{World, Above, Family, Lang, Any, Has, ReadAt, StuckAt, Verdict, Law, head}
-use Rattle.al_parse_member.proofs.Steady.{IsErr, same_head}
+use Rattle.al_parse_stmt.proofs.Outcomes.{IsErr, same_head}
 
 -- no list is read that begins with the tokens up to the one that is refused, with however many levels
 pub record RefusedAt {A : Type 0} (w : World) (p : Family A) (ts : List Token) (left : ℕ) : Type 0 where

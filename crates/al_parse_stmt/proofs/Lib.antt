@@ -1,3 +1,4 @@
+pub mod Outcomes
 pub mod Judge
 pub mod NamesAre
 pub mod KeptNames

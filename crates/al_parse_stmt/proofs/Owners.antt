@@ -11,7 +11,6 @@ use Rattle.al_tree.specs.declared.expression.Name.{Name}
 use Rattle.al_tree.specs.declared.item.Declarator.TheVariants as dec
 use Rattle.al_parse_type.specs.Parse.{sees_type_name, stars_from}
 use Rattle.al_parse_member.specs.Parameters.{type_name}
-use Rattle.al_parse_member.proofs.ParameterSound.{stars}
 use Rattle.al_parse_stmt.specs.Ahead.{some_parameters, owner_by, inside_of}
 use Rattle.al_parse_stmt.specs.Heads as parse
 

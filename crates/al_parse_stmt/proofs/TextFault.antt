@@ -18,7 +18,7 @@ use Rattle.al_tree.specs.declared.fault.ParseStop.TheVariants as stop
 use Rattle.al_tree.specs.declared.item.Tree.{Tree}
 use Rattle.al_tree.proofs.Law.{World, Above, Family}
 use Rattle.al_tree.proofs.Verdicts.{world}
-use Rattle.al_parse_member.proofs.Steady.{IsErr}
+use Rattle.al_parse_stmt.proofs.Outcomes.{IsErr}
 use Rattle.al_parse_stmt.specs.Parse as parse
 use Rattle.al_parse_stmt.proofs.ItemComplete.{text_c}
 use Rattle.al_parse_stmt.proofs.TextJudge.{Sized, More, JudgedText, text_judged}

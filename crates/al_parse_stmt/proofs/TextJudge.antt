@@ -10,7 +10,7 @@ use Rattle.al_tree.specs.declared.cursor.ParseError.TheVariants.{NoMemory, Stuck
 use Rattle.al_tree.specs.declared.item.Item.{Item}
 use Rattle.al_tree.proofs.Verdicts.{world}
 use Rattle.al_tree.proofs.Law.{World, Above, Family, Lang, Has, ReadAt, head, down, down_above, some_pred}
-use Rattle.al_parse_member.proofs.Steady.{IsErr, same_head, err_then}
+use Rattle.al_parse_stmt.proofs.Outcomes.{IsErr, same_head, err_then}
 use Rattle.al_parse_stmt.specs.Parse as parse
 use Rattle.al_parse_stmt.specs.Parse.{ReadItem}
 use Rattle.al_parse_stmt.proofs.ItemLaw.{LItem}
