@@ -147,6 +147,50 @@ fn two_hundred_levels_are_read_and_no_more(rt: HostRuntime) -> Result<(), Fail> 
     Ok(())
 }
 
+/// Adts with 20 tokens. In a type behind them `B[T]` is an array, or has the argument T where that is a parameter.
+const ADTS: &[u8] = b"adt B[U]{U u;}adt X[T]{T t;}";
+
+/// A text whose third item begins with the type B in so many brackets.
+fn nested(alloc: Global, brackets: usize, inside: &[u8], end: &[u8]) -> Result<Vec<u8>, Fail> {
+    let mut text = Vec::from_slice(alloc, ADTS)?;
+    for _bracket in 0..brackets {
+        text.extend_from_slice(b"B[")?;
+    }
+    text.extend_from_slice(inside)?;
+    for _bracket in 0..brackets {
+        text.push(b']')?;
+    }
+    text.extend_from_slice(end)?;
+    Ok(text)
+}
+
+#[test]
+fn a_result_goes_too_deep_where_each_way_to_read_it_does(rt: HostRuntime) -> Result<(), Fail> {
+    let alloc = rt.alloc();
+    let cases: [(usize, &[u8], &[u8], Answer); 6] = [
+        (198, b"B[T]", b"X[T].f(){}", Ok(3)),
+        (199, b"B[T]", b"X.f(){}", Ok(3)),
+        (199, b"B[T]", b"X[T].f(){}", Err((ParseReason::Deep, 622))),
+        (
+            199,
+            b"B[T[1]]",
+            b"X[T].f(){}",
+            Err((ParseReason::Deep, 421)),
+        ),
+        (199, b"B[T;", b"", Err((ParseReason::Unexpected, 421))),
+        (200, b"B[T]", b"X.f(){}", Err((ParseReason::Deep, 420))),
+    ];
+    for (brackets, inside, end, expected) in cases {
+        let text = nested(alloc, brackets, inside, end)?;
+        let found = answer(&rt, alloc, text.as_slice())?;
+        assert!(rt;
+            found == Some(expected),
+            "{brackets} {inside:?} {end:?}: {found:?}"
+        );
+    }
+    Ok(())
+}
+
 /// An aggr and a function, in 128 bytes.
 const PIECE: &[u8] =
     b"aggr T { int n; T *next; };\nint f(T*t,int i){int a[4];T*u;u=t;for(i=0;i<4;i++)a[i]=i*2+1;if(u->n==3)return a[2];return f(u,2);}\n";
