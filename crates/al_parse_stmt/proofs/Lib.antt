@@ -4,6 +4,7 @@ pub mod KeptNames
 pub mod LastFirst
 pub mod Balanced
 pub mod Facts
+pub mod Declared
 pub mod HeadSound
 pub mod Begins
 pub mod ItemSound
