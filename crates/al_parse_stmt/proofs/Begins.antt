@@ -33,7 +33,7 @@ same_read x y h = cc
 some_is : (m n : ℕ) → ◌≡◌ {A = Option ℕ} (Some m) (Some n) → m ≡ n
 some_is m n h = cc
 
-itself : (n : ℕ) → (n == n) ≡ true
+pub itself : (n : ℕ) → (n == n) ≡ true
 itself n = on (eqb_tells n n)
   where
     on : ((n == n ≡ true) × (n ≡ n)) ⊎ ((n == n ≡ false) × (n ≢ n)) → (n == n) ≡ true
@@ -48,7 +48,7 @@ no_name : (types : List ℕ) (r : List Token) → sees_type_name types r ≡ fal
 unfolding type_name
 no_name types r f = rw f refl
 
-never_seen : (types : List ℕ) → sees_type_name types [] ≡ true → ⊥
+pub never_seen : (types : List ℕ) → sees_type_name types [] ≡ true → ⊥
 unfolding sees_type_name kind same_kind
 never_seen types f = cc
 
@@ -72,11 +72,11 @@ module _ (d : Declared) (F : ℕ) where
 
   -- ---- how a beginning is read
 
-  begins_no : (owner : Option ℕ) (l : List Token) (x : ParseError) → stars_from F 0 l ≡ Err x → begins d F owner l ≡ Err x
+  pub begins_no : (owner : Option ℕ) (l : List Token) (x : ParseError) → stars_from F 0 l ≡ Err x → begins d F owner l ≡ Err x
   unfolding begins
   begins_no owner l x e = rw e refl
 
-  begins_new : (owner : Option ℕ) (l r : List Token) (s : ℕ) → stars_from F 0 l ≡ Ok (s, r) → sees_type_name d.types r ≡ false → begins d F owner l ≡ new_name d F owner owner (start l) s r
+  pub begins_new : (owner : Option ℕ) (l r : List Token) (s : ℕ) → stars_from F 0 l ≡ Ok (s, r) → sees_type_name d.types r ≡ false → begins d F owner l ≡ new_name d F owner owner (start l) s r
   unfolding begins
   begins_new owner l r s e f = rw (e, f) refl
 
@@ -94,7 +94,7 @@ module _ (d : Declared) (F : ℕ) where
   lender_is owner at s a r true c = rw c refl
   lender_is owner at s a r false c = rw c refl
 
-  begins_adt : (owner : Option ℕ) (l r : List Token) (s : ℕ) (a : Token) → stars_from F 0 l ≡ Ok (s, a ∷ r) → sees_type_name d.types (a ∷ r) ≡ true
+  pub begins_adt : (owner : Option ℕ) (l r : List Token) (s : ℕ) (a : Token) → stars_from F 0 l ≡ Ok (s, a ∷ r) → sees_type_name d.types (a ∷ r) ≡ true
       → begins d F owner l ≡ (if may_be owner a.name then (if agrees owner (lent a r) then Ok (first_name (start l) s a true, r) else refuse r) else refuse (a ∷ r))
   begins_adt owner l r s a e f = to_adt owner l r s a e f ∙ adt_is owner (start l) s a r (may_be owner a.name) refl
       ∙ ap (λ z. if may_be owner a.name then z else refuse (a ∷ r)) (lender_is owner (start l) s a r (agrees owner (lent a r)) refl)

@@ -87,7 +87,7 @@ token_at [] i h = absurd (omega (arith, h))
 token_at (t ∷ ts) zero h = record { before = []; token = t; after = ts; cut = refl; number = refl }
 token_at (t ∷ ts) (suc i) h = let q = token_at ts i (omega (arith, h)) in record { before = t ∷ q.before; token = q.token; after = q.after; cut = ap (λ l. t ∷ l) q.cut; number = ap suc q.number }
 
-nothing : (l : List Token) → length l ≡ 0 → l ≡ []
+pub nothing : (l : List Token) → length l ≡ 0 → l ≡ []
 nothing [] h = refl
 nothing (t ∷ l) h = absurd (omega (arith, h))
 

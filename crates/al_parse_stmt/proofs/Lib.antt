@@ -7,6 +7,9 @@ pub mod Facts
 pub mod Declared
 pub mod HeadSound
 pub mod Begins
+pub mod BegunLaw
+pub mod NeverDeep
+pub mod Ways
 pub mod ItemSound
 pub mod HeadComplete
 pub mod ItemComplete
