@@ -1,5 +1,5 @@
 -- What a declaration begins with keeps the law, in each way to read it.
-use Rattle.std.proofs.Common.{◌≡◌, ℕ, ◌≤◌, ◌<◌, ◌==◌, Bool, true, false, if◌then◌else◌, List, [], ◌∷◌, ◌++◌, length, Option, Some, None, Ok, Err, refl, sym, ap, ◌∙◌, subst, arith, append_assoc, append-nil, length-append}
+use Rattle.std.proofs.Common.{◌≡◌, ℕ, ◌+◌, ◌≤◌, ◌<◌, ◌==◌, Bool, true, false, if◌then◌else◌, List, [], ◌∷◌, ◌++◌, length, Option, Some, None, Ok, Err, refl, sym, ap, ◌∙◌, subst, arith, append_assoc, append-nil, length-append}
 use Rattle.al_base.specs.declared.place.Place.{Place}
 use Rattle.al_lex.specs.declared.kind.TokenKind.{TokenKind}
 use Rattle.al_lex.specs.declared.kind.TokenKind.TheVariants as k
@@ -10,7 +10,8 @@ use Rattle.al_tree.specs.Types as rules
 use Rattle.al_tree.specs.Items.{Declared}
 use Rattle.al_tree.specs.Reading.{Outcome, ◌>>=◌, pure, refuse, kind, name_number, take_if}
 use Rattle.al_tree.specs.declared.cursor.ParseError.{ParseError}
-use Rattle.al_tree.proofs.Law.{World, Lang, Any, head, Has, Law, bind, map_law, pure_law, refuse_law, choose, look, kind_local, start_local, located, take_law, all_turns, relang}
+use Rattle.al_tree.proofs.Verdicts.{world}
+use Rattle.al_tree.proofs.Law.{World, Verdict, Lang, Any, head, Has, Law, bind, map_law, pure_law, refuse_law, choose, look, kind_local, start_local, located, take_law, all_turns, relang}
 use Rattle.al_parse_type.specs.declared.part.ReadBase.{ReadBase}
 use Rattle.al_parse_type.specs.Parse.{sees_type_name, other_name, stars_from}
 use Rattle.al_parse_type.specs.Within.{base_within}
@@ -18,11 +19,11 @@ use Rattle.al_parse_type.proofs.BoundLaw.{always, at_nil, other_law, stars_law, 
 use Rattle.al_parse_type.proofs.TypeLaw.{LBase, type_name_local, type_name_is}
 use Rattle.al_parse_type.proofs.BaseWhole.{base_within_law}
 use Rattle.al_parse_stmt.specs.declared.heads.FirstName.{FirstName}
-use Rattle.al_parse_stmt.specs.Ahead.{inside_of}
+use Rattle.al_parse_stmt.specs.Ahead.{owner_of, inside_of}
 use Rattle.al_parse_stmt.specs.Begun as parse
 use Rattle.al_parse_stmt.specs.Begun.{Begun, lends, may_be, agrees, first_name, begins, begun_as}
-use Rattle.al_parse_stmt.proofs.Facts.{never_ok}
-use Rattle.al_parse_stmt.proofs.Begins.{same_read, itself, never_seen, begins_no, begins_new, begins_adt, parts_of}
+use Rattle.al_parse_stmt.proofs.Facts.{never_ok, same_front}
+use Rattle.al_parse_stmt.proofs.Begins.{same_read, itself, never_seen, begins_no, begins_new, begins_adt, begins_owner, begins_open, owner_is, types_as, parts_of}
 use Rattle.al_parse_stmt.proofs.Declared.{NameIs, IsBegun, Agrees, OwnerFits}
 
 number_local : (ts ts' : List Token) → head ts ≡ head ts' → name_number ts ≡ name_number ts'
@@ -70,34 +71,32 @@ module _ (leaves : Leaves) (d : Declared) (owner : Option ℕ) (fit : OwnerFits 
   first_place at = let x = some_name at in record { word = x.token ∷ []; value = first_name at 0 x.token x.owned; is = (named_at at [] 0 x.token x.owned rules.none x.is, x.place) }
 
   module _ (R : Type 0) (w : World) (at : Place) (s : List Token) (n : ℕ) (a : AreStars leaves d.types s n) where
-    LName : Lang FirstName
+    abbrev LName : Lang FirstName
     LName v y = FirstAt at (s ++ v) y
 
     lender_law : {G : List Token → Type 0} → ((t : Token) (ts : List Token) → G (t ∷ ts) → IsTypeName leaves d.types t × (may_be owner t.name ≡ true)) → Law R w G (λ w. parse.lender d w.turns owner at n) LName
-    unfolding parse.lender LName
+    unfolding parse.lender
     lender_law c = take_law (λ w t ts. (if agrees owner (lends d t.name (kind ts)) then pure (first_name at n t true) else refuse) ts) always (λ m n l e. e) (λ t. IsTypeName leaves d.types t × (may_be owner t.name ≡ true)) c (behind_stars at s n a)
         (λ t i. let whole = named_at at s n t true a i in
         let has : Has (λ v y. FirstAt at (s ++ t ∷ v) y) = record { word = []; value = first_name at n t true; is = whole } in
         look kind kind_local (λ w next. if agrees owner (lends d t.name next) then pure (first_name at n t true) else refuse) has
         (λ next. choose (agrees owner (lends d t.name next)) (λ yes. pure_law (first_name at n t true) whole) (λ not. refuse_law has)))
 
+    first_may : (t : Token) (ts : List Token) → may_be owner (name_number (t ∷ ts)) ≡ true → may_be owner t.name ≡ true
+    unfolding name_number
+    first_may t ts e = e
+
     adt_law : {G : List Token → Type 0} → ((t : Token) (ts : List Token) → G (t ∷ ts) → IsTypeName leaves d.types t) → Law R w G (λ w. parse.adt_name d w.turns owner at n) LName
     unfolding parse.adt_name
     adt_law c = look (λ ts. may_be owner (name_number ts)) (λ ts ts' h. ap (may_be owner) (number_local ts ts' h)) (λ w fits. if fits then parse.lender d w.turns owner at n else refuse) (behind_stars at s n a)
         (λ fits. choose fits (λ yes. lender_law (λ t ts g. (c t ts g.0, first_may t ts (g.1 ∙ yes)))) (λ not. refuse_law (behind_stars at s n a)))
-      where
-        first_may : (t : Token) (ts : List Token) → may_be owner (name_number (t ∷ ts)) ≡ true → may_be owner t.name ≡ true
-        unfolding name_number
-        first_may t ts e = e
 
     new_law : {G : List Token → Type 0} → (o : Option ℕ) → owner ≡ o → Law R w G (λ w. parse.new_name d w.turns owner o at n) LName
-    unfolding LName
     new_law None e = other_law leaves d.types (λ w t. pure (first_name at n t false)) (behind_stars at s n a) (λ t c. pure_law (first_name at n t false) (named_at at s n t false a (c, e)))
     new_law (Some x) e = refuse_law (behind_stars at s n a)
 
   inner_law : (R : Type 0) (w : World) → (R → w.fuel ≤ w.turns) → (at : Place)
       → Law R w Any (λ w. stars_from w.turns 0 >>= (λ n ts. (if sees_type_name d.types ts then parse.adt_name d w.turns owner at n else parse.new_name d w.turns owner owner at n) ts)) (FirstAt at)
-  unfolding LName
   inner_law R w fits at =
       bind (all_turns fits (λ i w. stars_from i 0) (stars_law leaves d.types (w.fuel ≤ w.turns) w.turns (record w { fuel = w.turns }) refl [] 0 rules.none)) (λ s n a.
       look (sees_type_name d.types) (type_name_local leaves d.types) (λ w is. if is then parse.adt_name d w.turns owner at n else parse.new_name d w.turns owner owner at n) (behind_stars at s n a)
@@ -119,14 +118,30 @@ module _ (leaves : Leaves) (d : Declared) (owner : Option ℕ) (fit : OwnerFits 
   as_law R w fits = bind (base_within_law leaves (with_names d.types (inside_of d owner)) R w Any fits) (λ u b i. map_law (λ y. (b, y)) (begins_law R w fits)
       (λ v y q. record { front = u; starred = q.0.starred; cut = ap (λ l. u ++ l) q.0.cut; base = i; stars = q.0.stars; place = ap start (sym q.0.cut) ∙ q.1; name = q.0.name }))
 
+-- ---- the way that is found ahead
+
+module _ (leaves : Leaves) (d : Declared) (owner : Option ℕ) (fit : OwnerFits d owner) where
+  -- it is the one in which the tokens are read, wherever the same ones stand with the same one behind them
+  pub found_on : (F n : ℕ) (used : List Token) (y : Begun) (r : List Token) → length (used ++ r) < F → begun_as leaves F n d owner (used ++ r) ≡ Ok (y, r) → (F2 : ℕ) → F ≤ F2 → (r' : List Token) → head r' ≡ head r → owner_of d F2 (used ++ r') ≡ owner
+  found_on F n used y r s h F2 more r' e =
+      let types = types_as leaves F n d owner in
+      let p = parts_of leaves F n d owner (used ++ r) y r h in
+      let v = subst (Verdict (world F n) (λ w. base_within leaves types w.turns w.depth) (LBase leaves types true) (used ++ r)) p.base ((base_within_law leaves types (Unit {0}) (world F n) Any (λ _. omega arith)).run tt (used ++ r) tt s) in
+      let short : length v.used + length p.behind < F = omega (arith, s, ap length v.cut, length-append v.used p.behind) in
+      let b = subst (Verdict (world F n) (λ w. begins d w.turns owner) (λ v y. FirstAt leaves d owner fit y.at v y × (start v ≡ y.at)) p.behind) p.name ((begins_law leaves d owner fit (Unit {0}) (world F n) (λ _. omega arith)).run tt p.behind tt (omega (arith, short))) in
+      let same : used ≡ v.used ++ b.used = sym (same_front used (v.used ++ b.used) r (v.cut ∙ ap (λ l. v.used ++ l) b.cut ∙ sym (append_assoc v.used b.used r))) in
+      let name : begins d F2 owner (b.used ++ r') ≡ Ok (y.1, r') = b.again (world F2 n) (record { fuel = more; turns = more; depth = omega arith }) r' e in
+      ap (owner_of d F2) (ap (λ l. l ++ r') same ∙ append_assoc v.used b.used r')
+      ∙ owner_is leaves F2 n d types v.used y.0 (b.used ++ r') v.is (omega (arith, short, more)) (begins_open d F2 owner (b.used ++ r') y.1 r' (omega (arith, s, more)) name)
+      ∙ begins_owner d F2 owner (b.used ++ r') y.1 r' name
+
 -- ---- what is known of the token behind it
 
 module _ (d : Declared) (F : ℕ) (owner : Option ℕ) where
-  AgreesName : FirstName → List Token → Type 0
+  abbrev AgreesName : FirstName → List Token → Type 0
   AgreesName y r = y.owned ≡ true → agrees owner (lends d y.name.name (kind r)) ≡ true
 
   begins_agrees : (l : List Token) (y : FirstName) (r : List Token) → begins d F owner l ≡ Ok (y, r) → AgreesName y r
-  unfolding AgreesName
   begins_agrees l y r h = by (stars_from F 0 l) refl
     where
       never : {x : ParseError} → begins d F owner l ≡ Err x → AgreesName y r
@@ -159,5 +174,4 @@ module _ (d : Declared) (F : ℕ) (owner : Option ℕ) where
       by (Ok x) e = seen x.0 x.1 e (sees_type_name d.types x.1) refl
 
 pub as_agrees : (leaves : Leaves) (d : Declared) (F n : ℕ) (owner : Option ℕ) (ts : List Token) (y : Begun) (r : List Token) → begun_as leaves F n d owner ts ≡ Ok (y, r) → Agrees d owner y r
-unfolding AgreesName
 as_agrees leaves d F n owner ts y r h = let p = parts_of leaves F n d owner ts y r h in begins_agrees d F owner p.behind y.1 r p.name

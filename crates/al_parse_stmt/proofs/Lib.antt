@@ -11,6 +11,7 @@ pub mod BegunLaw
 pub mod NeverDeep
 pub mod Ways
 pub mod ItemSound
+pub mod ItemEnds
 pub mod HeadComplete
 pub mod ItemComplete
 pub mod TextIs

@@ -17,12 +17,21 @@ NotDeep (Err (Deep m)) = ⊥
 pub is_err : {A : Type 0} {o : Outcome A} (e : Rattle.al_tree.specs.declared.cursor.ParseError.ParseError) → o ≡ Err e → IsErr o
 is_err e h = subst IsErr (sym h) tt
 
-module _ {A : Type 0} (q : ℕ → ℕ → Parser A) (Q : Lang A) (law : (F n : ℕ) → Law (Unit {0}) (world F n) Any (λ w. q w.turns w.depth) Q) where
-  verdict : (F n : ℕ) (ts : List Token) → length ts < F → Verdict (world F n) (λ w. q w.turns w.depth) Q ts (q F n ts)
-  verdict F n ts s = (law F n).run tt ts tt s
+-- a parser by how many turns and levels it has, with what it reads
+pub record Way (A : Type 0) : Type 1 where
+  pub reads : ℕ → ℕ → Parser A
+  pub Reads : Lang A
+  pub law : (F n : ℕ) → Law (Unit {0}) (world F n) Any (λ w. reads w.turns w.depth) Reads
 
-  at : (F n : ℕ) (ts : List Token) (o : Outcome A) → length ts < F → q F n ts ≡ o → Verdict (world F n) (λ w. q w.turns w.depth) Q ts o
-  at F n ts o s e = subst (Verdict (world F n) (λ w. q w.turns w.depth) Q ts) e (verdict F n ts s)
+module _ {A : Type 0} (way : Way A) where
+  abbrev q : ℕ → ℕ → Parser A
+  q = way.reads
+
+  abbrev Q : Lang A
+  Q = way.Reads
+
+  pub at : (F n : ℕ) (ts : List Token) (o : Outcome A) → length ts < F → q F n ts ≡ o → Verdict (world F n) (λ w. q w.turns w.depth) Q ts o
+  at F n ts o s e = subst (Verdict (world F n) (λ w. q w.turns w.depth) Q ts) e ((way.law F n).run tt ts tt s)
 
   above : {F n F2 n2 : ℕ} → F ≤ F2 → n ≤ n2 → Above (world F n) (world F2 n2)
   above h g = record { fuel = h; turns = h; depth = g }
