@@ -1,7 +1,7 @@
 -- What the outcome of a declaration says of its tokens, which are read in several ways.
 use Rattle.std.proofs.Common.{◌≡◌, ℕ, zero, suc, ◌+◌, ◌-◌, ◌<◌, ◌≤◌, ◌==◌, ◌⊎◌, inl, inr, Bool, true, false, if◌then◌else◌, List, [], ◌∷◌, ◌++◌, length, take, drop, Option, Some, None, Ok, Err, refl, sym, ap, ◌∙◌, subst, arith, append_assoc, append-nil, length-append}
 use Rattle.std.proofs.lemmas.Bool.Decides.{eqb_tells}
-use Rattle.std.proofs.lemmas.List.{take_at, take-append-drop, length-drop}
+use Rattle.std.proofs.lemmas.List.{take_at, take-append-drop}
 use Rattle.al_base.specs.declared.place.Place.{Place}
 use Rattle.al_lex.specs.declared.kind.TokenKind.TheVariants as k
 use Rattle.al_lex.specs.declared.token.Token.{Token}
@@ -17,7 +17,7 @@ use Rattle.al_tree.proofs.Verdicts.{world}
 use Rattle.al_parse_member.proofs.Steady.{IsErr, same_head}
 use Rattle.al_parse_stmt.specs.declared.heads.FirstName.{FirstName}
 use Rattle.al_parse_stmt.specs.Ahead.{owner_ahead, owner_by, owner_of}
-use Rattle.al_parse_stmt.specs.Begun.{Begun, owners, left_with, up_to, can_go_on, alive_by, some_alive, fault_at, begun_as, deeper_as, least, alive, any_alive}
+use Rattle.al_parse_stmt.specs.Begun.{Begun, owners, left_with, nearer, up_to, can_go_on, alive_by, some_alive, fault_at, begun_as, deeper_as, least, alive, any_alive}
 use Rattle.al_parse_stmt.specs.Parse as parse
 use Rattle.al_parse_stmt.specs.Parse.{ReadItem}
 use Rattle.al_parse_stmt.proofs.Facts.{never_ok, At, token_at, nothing, start_behind}
@@ -515,14 +515,15 @@ module _ (leaves : Leaves) (d : Declared) (at : Place) (scope : Option Scope) (s
               deep_here (let g = v.goes_on in record { word = g.word; value = g.value; is = subst (λ z. Behind (z ∷ g.word) g.value) first (subst (λ l. Behind (l ++ v.last ∷ g.word) g.value) e.0 g.is) })
           of (inr e) = absurd (omega (arith, ap length e.1))
 
-    decided : (left m : ℕ) (y : Begun) (t : Token) (l : List Token) → left ≤ length ts → way main F n ts ≡ Err (Deep m) → way main F high (up_to left ts) ≡ Ok (y, t ∷ l)
-        → Judged w p Q ts (Err (parse.fault_behind leaves F n d (length (t ∷ l) + (left - 1)) (rest F n y (t ∷ []))))
-    decided left m y t l room deep h =
+    decided : (left m : ℕ) (y : Begun) (t : Token) (l : List Token) → way main F n ts ≡ Err (Deep m) → way main F high (up_to left ts) ≡ Ok (y, t ∷ l)
+        → Judged w p Q ts (Err (parse.fault_behind leaves F n d (length ts - (length (up_to left ts) - length (t ∷ l))) (rest F n y (t ∷ []))))
+    decided left m y t l deep h =
         let i = length ts - (left - 1) in
         let whole_cut : up_to left ts ++ drop i ts ≡ ts = take-append-drop i ts in
         let q = ways.at (the main main_fit) F high (up_to left ts) (Ok (y, t ∷ l)) (omega (arith, short, ap length whole_cut, length-append (up_to left ts) (drop i ts))) h in
         let cut : ts ≡ q.used ++ t ∷ (l ++ drop i ts) = sym whole_cut ∙ ap (λ z. z ++ drop i ts) q.cut ∙ append_assoc q.used (t ∷ l) (drop i ts) in
-        let count : suc (length (l ++ drop i ts)) ≡ length (t ∷ l) + (left - 1) = omega (arith, room, length-drop i ts, length-append l (drop i ts)) in
+        let count : suc (length (l ++ drop i ts)) ≡ length ts - (length (up_to left ts) - length (t ∷ l)) =
+        omega (arith, ap length cut, ap length q.cut, length-append q.used (t ∷ l), length-append q.used (t ∷ (l ++ drop i ts))) in
         subst (λ c. Judged w p Q ts (Err (parse.fault_behind leaves F n d c (rest F n y (t ∷ []))))) count
         (named q.used (l ++ drop i ts) t y m cut q.is (q.again (world F high) (above_self (world F high)) (t ∷ []) refl) deep (rest F n y (t ∷ [])) (verdict q.used (l ++ drop i ts) t y m cut q.is (q.again (world F high) (above_self (world F high)) (t ∷ []) refl) deep))
 
@@ -535,7 +536,7 @@ module _ (leaves : Leaves) (d : Declared) (at : Place) (scope : Option Scope) (s
     same_deep m i e = cc
 
     settle : (e : ParseError) → way main F n ts ≡ Err e → (left : ℕ) → Least left (λ o. way o F n ts) (owners d.adts) → Leaving (OwnerFits d) (λ o. way o F n ts) left
-        → Judged w p Q ts (Err (parse.or_at leaves F n d left (any_alive leaves F n d ts left) (parse.decided leaves F n d at scope left e (deeper_as leaves F d main (up_to left ts)))))
+        → Judged w p Q ts (Err (parse.or_at leaves F n d left (any_alive leaves F n d ts left) (parse.decided leaves F n d at scope ts (up_to left ts) left e (deeper_as leaves F d main (up_to left ts)))))
     settle NoMemory me left gl gs = absurd (ways.never_memory (the main main_fit) F n ts short me)
     settle (Stuck m) me left gl gs = undecided left (record { error = Stuck m; is = me; least = gl; some = gs; none = λ i h. absurd (other_fault m i (sym me ∙ h)) }) (any_alive leaves F n d ts left) refl
     settle (Deep m) me left gl gs = by (m + 1 == left) refl
@@ -552,21 +553,22 @@ module _ (leaves : Leaves) (d : Declared) (at : Place) (scope : Option Scope) (s
         not_more : (y : Begun) → way main F high (up_to left ts) ≡ Ok (y, []) → (y2 : Begun) (t : Token) (l : List Token) → way main F high (up_to left ts) ≡ Ok (y2, t ∷ l) → ⊥
         not_more y c y2 t l h = absurd (omega (arith, ap (λ (x : Begun × List Token). length x.1) (same_read (y, []) (y2, t ∷ l) (sym c ∙ h))))
 
-        read_so : (y : Begun) (l : List Token) → way main F high (up_to left ts) ≡ Ok (y, l) → Judged w p Q ts (Err (parse.or_at leaves F n d left (any_alive leaves F n d ts left) (parse.decided_at leaves F n d at scope left y l)))
+        read_so : (y : Begun) (l : List Token) → way main F high (up_to left ts) ≡ Ok (y, l) → Judged w p Q ts (Err (parse.or_at leaves F n d left (any_alive leaves F n d ts left) (parse.decided_at leaves F n d at scope ts (up_to left ts) y l)))
         read_so y [] c = none_so (λ i e h y2 t l q. not_more y c y2 t l q)
-        read_so y (t ∷ l) c = decided left m y t l (room_of left gs) me c
+        read_so y (t ∷ l) c = decided left m y t l me c
 
-        higher : (x : Outcome Begun) → way main F high (up_to left ts) ≡ x → Judged w p Q ts (Err (parse.or_at leaves F n d left (any_alive leaves F n d ts left) (parse.decided_by leaves F n d at scope left x)))
+        higher : (x : Outcome Begun) → way main F high (up_to left ts) ≡ x → Judged w p Q ts (Err (parse.or_at leaves F n d left (any_alive leaves F n d ts left) (parse.decided_by leaves F n d at scope ts (up_to left ts) x)))
         higher (Ok x) c = read_so x.0 x.1 c
         higher (Err z) c = none_so (λ i e h y t l q. never_ok z (y, t ∷ l) (sym c ∙ q))
 
-        by : (b : Bool) → (m + 1 == left) ≡ b → Judged w p Q ts (Err (parse.or_at leaves F n d left (any_alive leaves F n d ts left) (if b then None else parse.decided_by leaves F n d at scope left (deeper_as leaves F d main (up_to left ts)))))
+        by : (b : Bool) → (m + 1 == left) ≡ b → Judged w p Q ts (Err (parse.or_at leaves F n d left (any_alive leaves F n d ts left) (if b then None else parse.decided_by leaves F n d at scope ts (up_to left ts) (deeper_as leaves F d main (up_to left ts)))))
         by true c = none_so (λ i e h y t l q. at_once c i e h)
         by false c = higher (way main F high (up_to left ts)) refl
 
     not_read : (e : ParseError) → way main F n ts ≡ Err e → Judged w p Q ts (Err (parse.fault_with leaves F n d at scope ts main e (least leaves F n d ts e)))
     unfolding parse.fault_with least
-    not_read e me = settle e me (least leaves F n d ts e) (least_leaves (λ o. way o F n ts) (owners d.adts) (left_with e)) (least_is (OwnerFits d) (λ o. way o F n ts) (owners d.adts) tt fits main e main_fit me)
+    not_read e me = settle e me (least leaves F n d ts e) (least_leaves (λ o. way o F n ts) (owners d.adts) (nearer e (length ts))) (least_is (OwnerFits d) (λ o. way o F n ts) (owners d.adts) tt fits (nearer e (length ts))
+        (record { way = main; fit = main_fit; error = e; is = me; left = let h = room_of (left_with e) (record { way = main; fit = main_fit; error = e; is = me; left = refl }) in omega (arith, h) }))
 
     judged_main : (x : Outcome Begun) → way main F n ts ≡ x → Judged w p Q ts (whole F n ts)
     judged_main (Ok x) h = read x.0 x.1 h

@@ -102,8 +102,8 @@ unfolding least_left
 all_nearer P f [] h n l = l
 all_nearer P f (x ∷ xs) h n l = all_nearer P f xs h.1 (less_left (f (Some x)) n) (nearer P f (Some x) h.0 n l)
 
-pub least_is : (P : Option ℕ → Type 0) (f : Option ℕ → Outcome Begun) (ns : List ℕ) → P None → Each P ns → (o : Option ℕ) (e : ParseError) → P o → f o ≡ Err e → Leaving P f (least_left f ns (less_left (f None) (left_with e)))
-least_is P f ns none h o e fit is = all_nearer P f ns h (less_left (f None) (left_with e)) (nearer P f None none (left_with e) (record { way = o; fit = fit; error = e; is = is; left = refl }))
+pub least_is : (P : Option ℕ → Type 0) (f : Option ℕ → Outcome Begun) (ns : List ℕ) → P None → Each P ns → (n : ℕ) → Leaving P f n → Leaving P f (least_left f ns (less_left (f None) n))
+least_is P f ns none h n l = all_nearer P f ns h (less_left (f None) n) (nearer P f None none n l)
 
 -- ---- which ways are alive
 

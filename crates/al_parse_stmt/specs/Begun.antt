@@ -50,9 +50,12 @@ left_with NoMemory = 0
 left_with (Stuck n) = n
 left_with (Deep n) = n + 1
 
+abbrev pub nearer : ParseError → ℕ → ℕ
+nearer e n = min (left_with e) n
+
 abbrev pub less_left : Outcome Begun → ℕ → ℕ
 less_left (Ok x) n = n
-less_left (Err e) n = min (left_with e) n
+less_left (Err e) n = nearer e n
 
 -- the least of that and of what the faults of these ways leave
 unfoldable pub least_left : (Option ℕ → Outcome Begun) → List ℕ → ℕ → ℕ
@@ -125,7 +128,7 @@ deeper_as leaves turns d owner = begun_as leaves turns (turns - 1) d owner
 module _ (leaves : Leaves) (turns depth : ℕ) (d : Declared) (ts : List Token) where
   -- how many tokens the fault furthest on leaves, where some way has that fault
   unfoldable pub least : ParseError → ℕ
-  least e = least_left (λ owner. begun_as leaves turns depth d owner ts) (owners d.adts) (less_left (begun_as leaves turns depth d None ts) (left_with e))
+  least e = least_left (λ owner. begun_as leaves turns depth d owner ts) (owners d.adts) (less_left (begun_as leaves turns depth d None ts) (nearer e (length ts)))
 
   abbrev pub alive : ℕ → Option ℕ → Bool
   alive left owner = alive_by left (begun_as leaves turns depth d owner ts) (deeper_as leaves turns d owner (up_to left ts))

@@ -194,25 +194,26 @@ module _ (leaves : Leaves) (turns depth : ℕ) (d : Declared) where
   fault_behind left (Err (Stuck (suc n))) = Stuck left
   fault_behind left o = Deep (left - 1)
 
-  abbrev pub decided_at : Place → Option Scope → ℕ → Begun → List Token → Option ParseError
-  decided_at at scope left y [] = None
-  decided_at at scope left y (t ∷ rest) = Some (fault_behind (length (t ∷ rest) + (left - 1)) (behind_begun at scope y (t ∷ [])))
+  -- by the tokens from that one on to the end of the first ones of all
+  abbrev pub decided_at : Place → Option Scope → (all first : List Token) → Begun → List Token → Option ParseError
+  decided_at at scope all first y [] = None
+  decided_at at scope all first y (t ∷ rest) = Some (fault_behind (length all - (length first - length (t ∷ rest))) (behind_begun at scope y (t ∷ [])))
 
-  abbrev pub decided_by : Place → Option Scope → ℕ → Outcome Begun → Option ParseError
-  decided_by at scope left (Ok x) = decided_at at scope left x.0 x.1
-  decided_by at scope left (Err e) = None
+  abbrev pub decided_by : Place → Option Scope → (all first : List Token) → Outcome Begun → Option ParseError
+  decided_by at scope all first (Ok x) = decided_at at scope all first x.0 x.1
+  decided_by at scope all first (Err e) = None
 
   -- the fault of the way that the brackets tell, where it goes too deep before the token that leaves so many and is read with more levels
-  abbrev pub decided : Place → Option Scope → ℕ → ParseError → Outcome Begun → Option ParseError
-  decided at scope left (Deep m) deeper = if m + 1 == left then None else decided_by at scope left deeper
-  decided at scope left e deeper = None
+  abbrev pub decided : Place → Option Scope → (all first : List Token) → ℕ → ParseError → Outcome Begun → Option ParseError
+  decided at scope all first left (Deep m) deeper = if m + 1 == left then None else decided_by at scope all first deeper
+  decided at scope all first left e deeper = None
 
   abbrev pub or_at : ℕ → Bool → Option ParseError → ParseError
   or_at left alive (Some e) = e
   or_at left alive None = fault_at left alive
 
   unfoldable pub fault_with : Place → Option Scope → List Token → Option ℕ → ParseError → ℕ → ParseError
-  fault_with at scope ts owner e left = or_at left (any_alive leaves turns depth d ts left) (decided at scope left e (deeper_as leaves turns d owner (up_to left ts)))
+  fault_with at scope ts owner e left = or_at left (any_alive leaves turns depth d ts left) (decided at scope ts (up_to left ts) left e (deeper_as leaves turns d owner (up_to left ts)))
 
   abbrev pub declared_by : Place → Option Scope → List Token → Option ℕ → Outcome Begun → Outcome ReadItem
   declared_by at scope ts owner (Ok x) = behind_begun at scope x.0 x.1
