@@ -6,7 +6,6 @@ use Rattle.al_tree.specs.Types.{Leaves, known, with_names, IsTypeName, IsOtherNa
 use Rattle.al_tree.specs.Items.{Declared, parameters_of}
 use Rattle.al_tree.specs.Reading.{kind}
 use Rattle.al_parse_type.proofs.TypeLaw.{LBase}
-use Rattle.al_parse_stmt.specs.declared.heads.FirstName.{FirstName}
 use Rattle.al_parse_stmt.specs.Ahead.{some_parameters, inside_of}
 use Rattle.al_parse_stmt.specs.Begun.{Begun, lends, may_be, agrees}
 

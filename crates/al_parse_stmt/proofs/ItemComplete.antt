@@ -336,7 +336,7 @@ module _ (leaves : Leaves) (F n : ℕ) (d : Declared) where
 
   declared_is : (at : Place) (scope : Option Scope) (ts r1 r2 : List Token) (y : Begun) (x : SizedDeclarator) → begun leaves F n d ts ≡ Ok (y, r1) → declarator_after leaves F n d y.1 r1 ≡ Ok (x, r2)
       → parse.declared leaves F n d at scope ts ≡ parse.behind_first leaves F n d at scope y.0 x.0 x.1 r2
-  unfolding parse.declared
+  unfolding parse.declared parse.behind_begun
   declared_is at scope ts r1 r2 y x e f =
       ap (λ o. and_then o (λ y. declarator_after leaves F n d y.1 >>= (λ x. parse.behind_first leaves F n d at scope y.0 x.0 x.1))) e
       ∙ ap (λ o. and_then o (λ x. parse.behind_first leaves F n d at scope y.0 x.0 x.1)) f

@@ -351,7 +351,7 @@ module _ (leaves : Leaves) (F n : ℕ) (d : Declared) where
   as_among at scope ts (Err f) e x r h = absurd (never_ok _ (x, r) h)
 
   declared_sound : (at : Place) (scope : Option Scope) (s : List Token) → IsScope leaves d.types s scope → Sound F (Placed at s) (parse.declared leaves F n d at scope) (λ r y. LItem leaves d (s ++ r) y)
-  unfolding parse.declared begun
+  unfolding parse.declared parse.behind_begun begun
   declared_sound at scope s word = record { run = λ ts g short x r e. (among_sound at scope s word).run ts g short x r (as_among at scope ts (begun_as leaves F n d (owner_of d F ts) ts) refl x r e) }
 
   scoped_sound : (word : Scope) {G : List Token → Type 0} → ((t : Token) (ts : List Token) → G (t ∷ ts) → scope_word t.kind ≡ Some word) → Sound F G (parse.scoped leaves F n d word) (LItem leaves d)

@@ -149,7 +149,7 @@ module _ (leaves : Leaves) (F n F2 n2 : ℕ) (turns : F ≤ F2) (low : n ≤ n2)
     behind_steady f at scope b (dec.Global x y) h = more_steady f at scope b (dec.Global x y, h)
 
     declared_steady : {K : ℕ} → K ≤ F → (at : Place) (scope : Option Scope) → Steady K Any (parse.declared leaves F n d at scope) (parse.declared leaves F2 n2 d at scope)
-    unfolding parse.declared
+    unfolding parse.declared parse.behind_begun
     declared_steady f at scope = bind_steady (begun_steady leaves F n F2 n2 turns low d f) (λ y. bind_steady (after_steady leaves d F n F2 n2 turns low f y.1) (λ x. behind_steady f at scope y.0 x.0 x.1))
 
     by_scope_steady : {K : ℕ} → K ≤ F → (o : Option Scope) → Steady K Any (parse.scoped_by leaves F n d o) (parse.scoped_by leaves F2 n2 d o)

@@ -1,5 +1,7 @@
 -- The names of types that were known before others were added stand in front of these.
-use Rattle.std.proofs.Common.{◌≡◌, ℕ, Bool, true, false, if◌then◌else◌, List, [], ◌∷◌, ◌++◌, length, take, Result, Ok, Err, refl, sym, ap, ◌∙◌, append_assoc, append-nil}
+use Rattle.std.proofs.Common.{◌≡◌, ℕ, Bool, true, false, if◌then◌else◌, List, [], ◌∷◌, ◌++◌, ◌==◌, ◌||◌, length, take, Result, Ok, Err, refl, sym, ap, ◌∙◌, append_assoc, append-nil}
+use Rattle.std.specs.List.{list_any}
+use Rattle.std.proofs.lemmas.List.Folds.{list_any-append}
 use Rattle.al_tree.specs.Types.{known, with_names}
 use Rattle.al_tree.specs.Items.{Declared}
 use Rattle.al_tree.specs.declared.cursor.ParseError.{ParseError}
@@ -20,6 +22,12 @@ one_longer types names n go false = let q = go (types ++ n ∷ []) in record { m
 longer : (types names : List ℕ) → Longer types (with_names types names)
 longer types [] = record { more = []; is = sym (append-nil types) }
 longer types (n ∷ names) = one_longer types names n (λ ts. longer ts names) (known types n)
+
+-- and are known still
+pub still_known : (types names : List ℕ) (n : ℕ) → known types n ≡ true → known (with_names types names) n ≡ true
+still_known types names n h =
+    let q = longer types names in
+    ap (λ l. known l n) q.is ∙ list_any-append (λ m. n == m) types q.more ∙ ap (λ b. b || list_any (λ m. n == m) q.more) h
 
 pub kept : (types names : List ℕ) → take (length types) (with_names types names) ≡ types
 kept types names = let q = longer types names in ap (take (length types)) q.is ∙ take_front types q.more

@@ -6,6 +6,9 @@ pub mod Balanced
 pub mod Facts
 pub mod Declared
 pub mod HeadSound
+pub mod LawSteps
+pub mod HeadLaw
+pub mod ItemLaw
 pub mod Begins
 pub mod BegunLaw
 pub mod NeverDeep

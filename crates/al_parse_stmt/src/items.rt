@@ -804,6 +804,29 @@ impl Reader {
         }
     }
 
+    /// What follows what a declaration begins with.
+    #[tactic(auto, unfolding(crate::specs::Parse::behind_begun))]
+    fn behind_begun(
+        &self,
+        text: &[u8],
+        at: Place,
+        scope: Option<Scope>,
+        begun: (ReadBase, FirstName),
+        known: &mut Known,
+        tokens: &mut Cursor<'_>,
+    ) -> Result<(Item, u32), ParseError>
+        requires turns { self.now.turns < 2 ^ 32 }
+        requires depth { self.now.depth < 999 }
+        requires some { 0 < self.now.depth }
+        requires base { begun.0.height ≤ self.now.depth }
+        ensures reads { ReadsItem (spec.behind_begun (leaves_of text.now) self.now.turns self.now.depth (declared_of known.old) at scope begun tokens.old) result known.new tokens.new }
+        ensures low { IfOk result (λ y. y.1 ≤ self.now.depth + 1) }
+    {
+        let (b, y) = begun;
+        let x = self.declarator_after(text, y, known, tokens)?;
+        self.behind_first(text, at, scope, b, x, known, tokens)
+    }
+
     #[tactic(auto, unfolding(crate::specs::Parse::declared))]
     fn declared(
         &self,
@@ -819,9 +842,8 @@ impl Reader {
         ensures reads { ReadsItem (spec.declared (leaves_of text.now) self.now.turns self.now.depth (declared_of known.old) at scope tokens.old) result known.new tokens.new }
         ensures low { IfOk result (λ y. y.1 ≤ self.now.depth + 1) }
     {
-        let (b, y) = self.begun(text, known, tokens)?;
-        let x = self.declarator_after(text, y, known, tokens)?;
-        self.behind_first(text, at, scope, b, x, known, tokens)
+        let begun = self.begun(text, known, tokens)?;
+        self.behind_begun(text, at, scope, begun, known, tokens)
     }
 
     #[tactic(auto, unfolding(crate::specs::Parse::scoped, crate::specs::Parse::unscoped))]
