@@ -1,5 +1,5 @@
 //! What a declaration begins with: a base type, and the stars and the name of its first declarator.
-ghost use Rattle.std.specs.Prelude.{◌≡◌, ◌≢◌, ◌<◌, ◌≤◌, ◌^◌, ℕ, Option, Some, None, IfOk, OnOk};
+ghost use Rattle.std.specs.Prelude.{◌≡◌, ◌≢◌, ◌+◌, ◌-◌, ◌==◌, ◌<◌, ◌≤◌, ◌^◌, ℕ, take, length, Option, Some, None, IfOk, OnOk};
 ghost use Rattle.al_tree.specs.Leaves.{leaves_of};
 ghost use Rattle.al_tree.specs.Reading.{Reads, kind};
 ghost use Rattle.al_tree.specs.Types.{with_names};
@@ -10,13 +10,14 @@ ghost use Rattle.al_parse_stmt.specs.Known.{declared_of, Restores};
 
 use crate::adts::declare_all;
 use crate::heads::FirstName;
-use crate::known::{Known, inside_of, owner_of, owners, parameters_of, some_parameters};
+use crate::known::{Known, inside_of, parameters_of, some_parameters};
 use crate::reader::Reader;
 use al_base::{NoMemory, Place};
 use al_items::Items;
 use al_lex::{Token, TokenKind};
 use al_parse_type::{ReadBase, other_name, sees_type_name, stars_from};
 use al_tree::{Cursor, ParseError};
+use std::alloc::Global;
 
 /// Whether an adt of that name may be the one whose parameters are types before it.
 fn may_be(owner: Option<u32>, name: u32) -> bool
@@ -37,17 +38,74 @@ fn agrees(owner: Option<u32>, lent: bool) -> bool
     }
 }
 
-/// Of two faults the one further on. What is too deep in one way is too deep.
-fn further(x: ParseError, y: ParseError) -> ParseError
-    ensures { result ≡ spec.further x y }
+/// The less of that and how many tokens are left with the one that the fault names.
+fn nearer(error: ParseError, left: usize) -> usize
+    ensures { result ≡ spec.nearer error left }
 {
-    match (x, y) {
-        (ParseError::NoMemory, _) => ParseError::NoMemory,
-        (_, ParseError::NoMemory) => ParseError::NoMemory,
-        (ParseError::Stuck(m), ParseError::Stuck(n)) => ParseError::Stuck(m.min(n)),
-        (ParseError::Stuck(_), ParseError::Deep(n)) => ParseError::Deep(n),
-        (ParseError::Deep(m), ParseError::Stuck(_)) => ParseError::Deep(m),
-        (ParseError::Deep(m), ParseError::Deep(n)) => ParseError::Deep(m.min(n)),
+    match error {
+        ParseError::NoMemory => 0,
+        ParseError::Stuck(n) => n.min(left),
+        ParseError::Deep(n) => {
+            if n < left {
+                n + 1
+            } else {
+                left
+            }
+        }
+    }
+}
+
+/// Whether the token that leaves so many is the one behind which that many are left.
+fn is_at(behind: usize, left: usize) -> bool
+    ensures { result ≡ (behind + 1 == left) }
+{
+    behind < left && left - behind == 1
+}
+
+/// How many tokens there are up to and with the one that leaves so many.
+fn count_to(left: usize, tokens: &Cursor<'_>) -> usize
+    ensures { result ≡ length tokens.now - (left - 1) }
+{
+    tokens.left().saturating_sub(left.saturating_sub(1))
+}
+
+/// The first tokens, that many or all.
+fn first_tokens(alloc: Global, count: usize, tokens: &Cursor<'_>) -> Result<Items<Token>, NoMemory>
+    ensures { IfOk result (λ all. all ≡ take count tokens.now) }
+{
+    let mut all = Items::new(alloc);
+    let mut rest = tokens.fork();
+    for _turn in 0..count {
+        match rest.take_if(true) {
+            Ok(t) => all.push(t)?,
+            Err(_) => return Ok(all),
+        }
+    }
+    Ok(all)
+}
+
+/// The tokens up to and with the one that leaves so many.
+pub(crate) fn up_to(
+    alloc: Global,
+    left: usize,
+    tokens: &Cursor<'_>,
+) -> Result<Items<Token>, NoMemory>
+    ensures { IfOk result (λ all. all ≡ spec.up_to left tokens.now) }
+{
+    first_tokens(alloc, count_to(left, tokens), tokens)
+}
+
+/// The fault at the token that leaves so many.
+pub(crate) fn fault_at(left: usize, alive: bool) -> ParseError
+    ensures { result ≡ spec.fault_at left alive }
+{
+    if left == 0 {
+        return ParseError::Stuck(0);
+    }
+    if alive {
+        ParseError::Deep(left - 1)
+    } else {
+        ParseError::Stuck(left)
     }
 }
 
@@ -160,7 +218,7 @@ impl Reader {
         known: &mut Known,
         tokens: &mut Cursor<'_>,
     ) -> Result<ReadBase, ParseError>
-        requires depth { self.now.depth < 999 }
+        requires depth { self.now.depth + 1 < 2 ^ 32 }
         ensures reads { Reads (type_spec.base_within (leaves_of text.now) (with_names known.old.types inside.now) self.now.turns self.now.depth tokens.old) result tokens.new }
         ensures low { IfOk result (λ y. y.height ≤ self.now.depth) }
         ensures same { Restores result (declared_of known.old) (declared_of known.new) }
@@ -174,7 +232,7 @@ impl Reader {
 
     /// A base type and what follows it, where the parameters of that adt are types.
     #[tactic(auto, unfolding(crate::specs::Begun::begun_as))]
-    fn begun_as(
+    pub(crate) fn begun_as(
         &self,
         text: &[u8],
         owner: Option<u32>,
@@ -182,7 +240,7 @@ impl Reader {
         tokens: &mut Cursor<'_>,
     ) -> Result<(ReadBase, FirstName), ParseError>
         requires turns { self.now.turns < 2 ^ 32 }
-        requires depth { self.now.depth < 999 }
+        requires depth { self.now.depth + 1 < 2 ^ 32 }
         ensures reads { Reads (spec.begun_as (leaves_of text.now) self.now.turns self.now.depth (declared_of known.old) owner tokens.old) result tokens.new }
         ensures low { IfOk result (λ y. y.0.height ≤ self.now.depth) }
         ensures same { Restores result (declared_of known.old) (declared_of known.new) }
@@ -193,84 +251,178 @@ impl Reader {
         Ok((b, y))
     }
 
-    /// That fault, or the one of this way to read the tokens if it is further on.
-    fn fault_as(
+    /// The same with as many levels as tokens may be left.
+    pub(crate) fn deeper(&self) -> Reader
+        requires turns { self.now.turns < 2 ^ 32 }
+        ensures turns { result.turns ≡ self.now.turns }
+        ensures depth { result.depth ≡ self.now.turns - 1 }
+    {
+        Reader {
+            alloc: self.alloc,
+            turns: self.turns,
+            depth: self.turns.saturating_sub(1) as u32,
+        }
+    }
+
+    /// The less of that and how many tokens are left with the fault of this way to read them.
+    fn less_left(
         &self,
         text: &[u8],
         owner: Option<u32>,
-        error: ParseError,
+        left: usize,
         known: &mut Known,
         tokens: &Cursor<'_>,
-    ) -> Result<ParseError, NoMemory>
+    ) -> Result<usize, NoMemory>
         requires turns { self.now.turns < 2 ^ 32 }
         requires depth { self.now.depth < 999 }
-        ensures value { IfOk result (λ e. e ≡ spec.further_by (spec.begun_as (leaves_of text.now) self.now.turns self.now.depth (declared_of known.old) owner tokens.now) error) }
+        ensures value { IfOk result (λ n. n ≡ spec.less_left (spec.begun_as (leaves_of text.now) self.now.turns self.now.depth (declared_of known.old) owner tokens.now) left) }
         ensures same { OnOk result (declared_of known.new ≡ declared_of known.old) }
     {
-        let mut further_on = tokens.fork();
-        match self.begun_as(text, owner, known, &mut further_on) {
-            Ok(_) => Ok(error),
+        let mut further = tokens.fork();
+        match self.begun_as(text, owner, known, &mut further) {
+            Ok(_) => Ok(left),
             Err(ParseError::NoMemory) => Err(NoMemory),
-            Err(found) => Ok(further(found, error)),
+            Err(error) => Ok(nearer(error, left)),
         }
     }
 
-    /// The fault furthest on of all ways to read the tokens.
-    fn furthest(
+    /// The least of that and what the ways of these adts leave.
+    fn least_of(
         &self,
         text: &[u8],
         names: &Items<u32>,
-        mut error: ParseError,
+        mut left: usize,
         known: &mut Known,
         tokens: &Cursor<'_>,
-    ) -> Result<ParseError, NoMemory>
+    ) -> Result<usize, NoMemory>
         requires turns { self.now.turns < 2 ^ 32 }
         requires depth { self.now.depth < 999 }
-        ensures { IfOk result (λ e. e ≡ spec.furthest (λ owner. spec.begun_as (leaves_of text.now) self.now.turns self.now.depth (declared_of known.old) owner tokens.now) names.now error) }
+        ensures value { IfOk result (λ n. n ≡ spec.least_left (λ owner. spec.begun_as (leaves_of text.now) self.now.turns self.now.depth (declared_of known.old) owner tokens.now) names.now left) }
+        ensures same { OnOk result (declared_of known.new ≡ declared_of known.old) }
     {
         for name in names.as_slice() {
-            error = self.fault_as(text, Some(*name), error, known, tokens)?;
+            left = self.less_left(text, Some(*name), left, known, tokens)?;
         }
-        Ok(error)
+        Ok(left)
     }
 
-    /// The fault of tokens that are refused so in one way.
-    fn fault(
+    /// How many tokens the fault furthest on leaves, where some way has that fault.
+    #[tactic(auto, unfolding(crate::specs::Begun::least))]
+    pub(crate) fn least(
         &self,
         text: &[u8],
+        names: &Items<u32>,
         error: ParseError,
         known: &mut Known,
         tokens: &Cursor<'_>,
-    ) -> Result<ParseError, NoMemory>
+    ) -> Result<usize, NoMemory>
         requires turns { self.now.turns < 2 ^ 32 }
         requires depth { self.now.depth < 999 }
-        ensures { IfOk result (λ e. e ≡ spec.furthest (λ owner. spec.begun_as (leaves_of text.now) self.now.turns self.now.depth (declared_of known.old) owner tokens.now) (spec.owners (declared_of known.old).adts) (spec.further_by (spec.begun_as (leaves_of text.now) self.now.turns self.now.depth (declared_of known.old) None tokens.now) error)) }
-    {
-        let names = owners(self.alloc, &known.adts)?;
-        let error = self.fault_as(text, None, error, known, tokens)?;
-        self.furthest(text, &names, error, known, tokens)
-    }
-
-    /// What a declaration begins with. Where it is read in no way, its fault is the one furthest on.
-    #[tactic(auto, unfolding(crate::specs::Begun::begun))]
-    pub(crate) fn begun(
-        &self,
-        text: &[u8],
-        known: &mut Known,
-        tokens: &mut Cursor<'_>,
-    ) -> Result<(ReadBase, FirstName), ParseError>
-        requires turns { self.now.turns < 2 ^ 32 }
-        requires depth { self.now.depth < 999 }
-        ensures reads { Reads (spec.begun (leaves_of text.now) self.now.turns self.now.depth (declared_of known.old) tokens.old) result tokens.new }
-        ensures low { IfOk result (λ y. y.0.height ≤ self.now.depth) }
+        requires names { names.now ≡ spec.owners (declared_of known.old).adts }
+        ensures value { IfOk result (λ n. n ≡ spec.least (leaves_of text.now) self.now.turns self.now.depth (declared_of known.old) tokens.now error) }
         ensures same { OnOk result (declared_of known.new ≡ declared_of known.old) }
     {
-        let owner = owner_of(self.alloc, known, self.turns, tokens)?;
-        let start = tokens.fork();
-        match self.begun_as(text, owner, known, tokens) {
-            Ok(read) => Ok(read),
-            Err(ParseError::NoMemory) => Err(ParseError::NoMemory),
-            Err(error) => Err(self.fault(text, error, known, &start)?),
+        let left = nearer(error, tokens.left());
+        let left = self.less_left(text, None, left, known, tokens)?;
+        self.least_of(text, names, left, known, tokens)
+    }
+
+    /// Whether these first tokens are read in that way or can go on, with any levels.
+    fn can_go_on(
+        &self,
+        text: &[u8],
+        owner: Option<u32>,
+        known: &mut Known,
+        first: &[Token],
+    ) -> Result<bool, NoMemory>
+        requires turns { self.now.turns < 2 ^ 32 }
+        ensures value { IfOk result (λ yes. yes ≡ spec.can_go_on (spec.deeper_as (leaves_of text.now) self.now.turns (declared_of known.old) owner first.now)) }
+        ensures same { OnOk result (declared_of known.new ≡ declared_of known.old) }
+    {
+        let mut tokens = Cursor::new(first);
+        match self.deeper().begun_as(text, owner, known, &mut tokens) {
+            Ok(_) => Ok(true),
+            Err(ParseError::NoMemory) => Err(NoMemory),
+            Err(ParseError::Stuck(n)) => Ok(n == 0),
+            Err(ParseError::Deep(_)) => Ok(false),
         }
+    }
+
+    /// Whether a way to read the tokens goes on with the one that leaves so many. The first ones are those up to it.
+    fn alive(
+        &self,
+        text: &[u8],
+        left: usize,
+        owner: Option<u32>,
+        known: &mut Known,
+        tokens: &Cursor<'_>,
+        first: &[Token],
+    ) -> Result<bool, NoMemory>
+        requires turns { self.now.turns < 2 ^ 32 }
+        requires depth { self.now.depth < 999 }
+        requires first { first.now ≡ spec.up_to left tokens.now }
+        ensures value { IfOk result (λ yes. yes ≡ spec.alive (leaves_of text.now) self.now.turns self.now.depth (declared_of known.old) tokens.now left owner) }
+        ensures same { OnOk result (declared_of known.new ≡ declared_of known.old) }
+    {
+        let mut further = tokens.fork();
+        match self.begun_as(text, owner, known, &mut further) {
+            Err(ParseError::NoMemory) => Err(NoMemory),
+            Err(ParseError::Deep(behind)) => {
+                if is_at(behind, left) {
+                    Ok(true)
+                } else {
+                    self.can_go_on(text, owner, known, first)
+                }
+            }
+            _ => Ok(false),
+        }
+    }
+
+    /// Whether the way of some of these adts does.
+    fn some_alive(
+        &self,
+        text: &[u8],
+        left: usize,
+        names: &Items<u32>,
+        known: &mut Known,
+        tokens: &Cursor<'_>,
+        first: &[Token],
+    ) -> Result<bool, NoMemory>
+        requires turns { self.now.turns < 2 ^ 32 }
+        requires depth { self.now.depth < 999 }
+        requires first { first.now ≡ spec.up_to left tokens.now }
+        ensures value { IfOk result (λ yes. yes ≡ spec.some_alive (spec.alive (leaves_of text.now) self.now.turns self.now.depth (declared_of known.old) tokens.now left) names.now) }
+        ensures same { OnOk result (declared_of known.new ≡ declared_of known.old) }
+    {
+        for name in names.as_slice() {
+            if self.alive(text, left, Some(*name), known, tokens, first)? {
+                return Ok(true);
+            }
+        }
+        Ok(false)
+    }
+
+    /// Whether some way goes on with the token that leaves so many.
+    #[tactic(auto, unfolding(crate::specs::Begun::any_alive))]
+    pub(crate) fn any_alive(
+        &self,
+        text: &[u8],
+        left: usize,
+        names: &Items<u32>,
+        known: &mut Known,
+        tokens: &Cursor<'_>,
+        first: &[Token],
+    ) -> Result<bool, NoMemory>
+        requires turns { self.now.turns < 2 ^ 32 }
+        requires depth { self.now.depth < 999 }
+        requires first { first.now ≡ spec.up_to left tokens.now }
+        requires names { names.now ≡ spec.owners (declared_of known.old).adts }
+        ensures value { IfOk result (λ yes. yes ≡ spec.any_alive (leaves_of text.now) self.now.turns self.now.depth (declared_of known.old) tokens.now left) }
+        ensures same { OnOk result (declared_of known.new ≡ declared_of known.old) }
+    {
+        if self.alive(text, left, None, known, tokens, first)? {
+            return Ok(true);
+        }
+        self.some_alive(text, left, names, known, tokens, first)
     }
 }
