@@ -4,17 +4,18 @@ use Rattle.al_base.specs.declared.place.Place.{Place}
 use Rattle.al_lex.specs.declared.kind.TokenKind.TheVariants as k
 use Rattle.al_lex.specs.declared.token.Token.{Token}
 use Rattle.al_tree.specs.Words.{start, basic_type}
-use Rattle.al_tree.specs.Types.{Leaves, known, IsTypeName, type_name, IsBase, basic, named, instance, tuple, bare_tuple, channel, buffered, IsStarred, base, star, IsTypes, IsParts}
-use Rattle.al_tree.specs.Reading.{◌>>=◌, pure, kind, name_number, same_kind, take_if, expect_if}
+use Rattle.al_tree.specs.Types.{Leaves, known, IsTypeName, type_name, IsBound, IsBase, basic, named, instance, tuple, bare_tuple, channel, buffered, IsStarred, base, star, IsTypes, IsParts}
+use Rattle.al_tree.specs.Reading.{Parser, ◌>>=◌, pure, kind, name_number, same_kind, take_if, expect_if}
 use Rattle.al_tree.specs.declared.type_tree.BasicType.{BasicType}
 use Rattle.al_tree.specs.declared.type_tree.TypeTree.{TypeTree}
 use Rattle.al_tree.specs.declared.type_tree.TypeTree.TheVariants as ty
 use Rattle.al_tree.proofs.Law.{World, Lang, Any, Has, Law, bind, map_law, look, start_local, start_of, located, all_turns}
+use Rattle.al_parse_type.specs.declared.part.Part.TheVariants as part
 use Rattle.al_parse_type.specs.declared.part.ReadBase.{ReadBase}
 use Rattle.al_parse_type.specs.Parse as parse
-use Rattle.al_parse_type.specs.Parse.{SizedType, sees_type_name, sees_type, sized_base, pointers_from, bound, below}
-use Rattle.al_parse_type.specs.Within.{type_within, starred_within, base_within, tuple_within, type_behind}
-use Rattle.al_parse_type.proofs.TypeLaw.{LType, LBase, base_long, starred_long, base_place, base_law, pointers_law, parts_law, tuple_law, after_law, type_law}
+use Rattle.al_parse_type.specs.Parse.{SizedBound, SizedType, SizedPart, sees_type_name, sees_type, sized_base, pointers_from, bound, below}
+use Rattle.al_parse_type.specs.Within.{type_within, starred_within, base_within, tuple_within, type_behind, inside_within, arguments_within}
+use Rattle.al_parse_type.proofs.TypeLaw.{LType, LBase, LPart, inside_law, arguments_law, base_long, starred_long, base_place, base_law, pointers_law, parts_law, tuple_law, after_law, type_law}
 use Rattle.al_parse_type.proofs.BoundComplete.{nat_lt_is, whole_bound, ends_bracket}
 use Rattle.al_parse_type.proofs.TypeComplete.{before_paren, before_bracket, not_comma_paren, not_comma_bracket, basic_not_name, T, no_capacity, some_capacity, step_arguments, step_parts, stars_c, all_stars, no_bracket, Bare, base_sees}
 use Rattle.al_parse_type.proofs.TypeWhole.{FirstType, first_type, whole_types, parts_c, inner_c}
@@ -50,6 +51,18 @@ module _ (leaves : Leaves) (types : List ℕ) where
   pub tuple_within_law : (R : Type 0) (w : World) → (R → w.fuel ≤ w.turns) → (R → 0 < w.depth) → (o : Token) → o.kind ≡ k.LeftParen → (u : List Token) (x : SizedType) → LType leaves types true u x
       → Law R w Any (λ w. tuple_within leaves types w.turns w.depth o.place x) (λ v y. LBase leaves types true (o ∷ (u ++ v)) y)
   tuple_within_law R w fits deep o oc u x a = tuple_law leaves types w.depth (λ R' w2 d f p y. parts_law leaves types w.depth R' w2 d f p y) R w true true refl fits deep (o ∷ []) o.place (λ c u2 xs h b ec. bare_tuple o c oc b ec) u x a
+
+  -- what stands in brackets behind the name of a type, and what is read behind it
+  pub inside_within_law : {A : Type 0} {Q : Lang A} (R : Type 0) (w : World) → (R → w.fuel ≤ w.turns) → (f : World → SizedPart → Parser A)
+      → ((R' : Type 0) → (R' → w.fuel ≤ w.turns) → (R' → 0 < w.depth) → (u : List Token) (x : SizedPart) → LPart leaves types true u x → Law R' w Any (λ w. f w x) (λ v y. Q (u ++ v) y))
+      → ((R' : Type 0) → (R' → w.fuel ≤ w.turns) → (u : List Token) (x : SizedBound) → IsBound leaves types u x.0 x.1 → Law R' w Any (λ w. f w (part.Bound x.0, x.1)) (λ v y. Q (u ++ v) y))
+      → Law R w Any (λ w. inside_within leaves types w.turns w.depth >>= f w) Q
+  inside_within_law R w fits f of_type of_bound = inside_law leaves types w.depth (λ R' w2 d f p y. parts_law leaves types w.depth R' w2 d f p y) R w refl fits f of_type of_bound
+
+  -- behind the name of a type, "[" and a first type
+  pub arguments_within_law : (R : Type 0) (w : World) → (R → w.fuel ≤ w.turns) → (R → 0 < w.depth) → (t o : Token) → IsTypeName leaves types t → o.kind ≡ k.LeftBracket → (u : List Token) (x : SizedType) → LType leaves types true u x
+      → Law R w Any (λ w. arguments_within leaves types w.turns w.depth t x) (λ v y. LBase leaves types true (t ∷ o ∷ (u ++ v)) y)
+  arguments_within_law R w fits deep t o tn oc u x a = arguments_law leaves types w.depth (λ R' w2 d f p y. parts_law leaves types w.depth R' w2 d f p y) R w true refl fits deep t o tn oc u x a
 
   -- behind a base type
   pub type_behind_law : (R : Type 0) (w : World) → (R → w.fuel ≤ w.turns) → (u : List Token) (x : ReadBase) (at : Place) → LBase leaves types true u x → start u ≡ at

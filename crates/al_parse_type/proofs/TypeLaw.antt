@@ -21,6 +21,7 @@ use Rattle.al_parse_type.specs.declared.part.Want.TheVariants as want
 use Rattle.al_parse_type.specs.declared.part.ReadBase.{ReadBase}
 use Rattle.al_parse_type.specs.Parse as parse
 use Rattle.al_parse_type.specs.Parse.{SizedType, SizedPart, SizedBound, sees_type_name, sees_type, wanted, part_wanted, type_of, is_one, sized_base, pointers_from, bounds_from, bound, bound_below, below}
+use Rattle.al_parse_type.specs.Within.{inside_within}
 use Rattle.al_parse_type.proofs.BoundLaw.{always, kind_is, first_kind, lt_grows, lt_of, down_fits, and_parts, at_nil, bound_law, higher_bound_law, higher_after_law, bounds_law, bound_has, lower, lower_above}
 
 -- ---- a level that may be missing
@@ -243,7 +244,7 @@ module _ (leaves : Leaves) (types : List ℕ) (n : ℕ)
   rest_law R w bare d fits deep u x a = all_turns_of (λ r. (fits r, deep r)) (λ i w. parse.types_from leaves types w.turns w.depth (S w) bare i (x.0 ∷ []) x.1)
       (types_law ((w.fuel ≤ w.turns) × (0 < w.depth)) bare w.turns (record w { fuel = w.turns }) refl d (λ r. omega arith) (λ r. r.1) u (x.0 ∷ []) x.1 (one a))
 
-  arguments_law : (R : Type 0) (w : World) (bare : Bool) → w.depth ≡ n → (R → w.fuel ≤ w.turns) → (R → 0 < w.depth) → (t o : Token) → IsTypeName leaves types t → o.kind ≡ k.LeftBracket → (u : List Token) (x : SizedType) → LType leaves types bare u x
+  pub arguments_law : (R : Type 0) (w : World) (bare : Bool) → w.depth ≡ n → (R → w.fuel ≤ w.turns) → (R → 0 < w.depth) → (t o : Token) → IsTypeName leaves types t → o.kind ≡ k.LeftBracket → (u : List Token) (x : SizedType) → LType leaves types bare u x
       → Law R w Any (λ w. parse.arguments_after leaves types w.turns w.depth (S w) bare t x) (λ v y. LBase leaves types bare (t ∷ o ∷ (u ++ v)) y)
   unfolding parse.arguments_after
   arguments_law R w bare d fits deep t o tn oc u x a = bind (rest_law R w bare d fits deep u x a) (λ v xs b.
@@ -443,6 +444,48 @@ module _ (leaves : Leaves) (types : List ℕ) (n : ℕ)
       (anywhere (bind (subs (R × (nat_lt 0 w.depth ≡ true)) w d (λ r. fits r.0) (λ r. lt_of 0 w.depth r.1) (part_wanted bare)) (λ u x a.
       bracketed_law (R × (nat_lt 0 w.depth ≡ true)) w bare d (λ r. fits r.0) (λ r. lt_of 0 w.depth r.1) t o tn oc u x (to_part bare u x a)))))
       (λ no. anywhere (bind (bound_law leaves types R w fits) (λ u m a. array_law R w bare fits t o tn oc u m a))))
+
+  -- what stands in the brackets, and what is read behind it: where it is a type there is a level
+  pub inside_law : {A : Type 0} {Q : Lang A} (R : Type 0) (w : World) → w.depth ≡ n → (R → w.fuel ≤ w.turns) → (f : World → SizedPart → Parser A)
+      → ((R' : Type 0) → (R' → w.fuel ≤ w.turns) → (R' → 0 < w.depth) → (u : List Token) (x : SizedPart) → LPart leaves types true u x → Law R' w Any (λ w. f w x) (λ v y. Q (u ++ v) y))
+      → ((R' : Type 0) → (R' → w.fuel ≤ w.turns) → (u : List Token) (x : SizedBound) → IsBound leaves types u x.0 x.1 → Law R' w Any (λ w. f w (part.Bound x.0, x.1)) (λ v y. Q (u ++ v) y))
+      → Law R w Any (λ w. inside_within leaves types w.turns w.depth >>= f w) Q
+  unfolding inside_within take_if
+  inside_law {A} {Q} R w d fits f of_type of_bound = look (parse.begins_part types true) (begins_local true) (λ w begins. inside begins w >>= f w)
+      (bind {p = λ w. bound leaves types w.turns w.depth >>= (λ x. pure (part.Bound x.0, x.1))} {f = f} (map_law {Q = λ u x. Bounded u x.0 x.1} (λ x. (part.Bound x.0, x.1)) (bound_law leaves types R w fits) (λ u x a. a)) (λ u x a. behind_bound u x.0 x.1 a)).has
+      by
+    where
+      inside : Bool → Family SizedPart
+      inside begins w = if begins then (if nat_lt 0 w.depth then S w want.Either else (take_if false >> refuse)) else (bound leaves types w.turns w.depth >>= (λ x. pure (part.Bound x.0, x.1)))
+
+      Bounded : List Token → Part → ℕ → Type 0
+      Bounded u (part.Bound x) h = IsBound leaves types u x h
+      Bounded u (part.Type x) h = ⊥
+
+      behind_bound : (u : List Token) (x : Part) (h : ℕ) → Bounded u x h → Law R w Any (λ w. f w (x, h)) (λ v y. Q (u ++ v) y)
+      behind_bound u (part.Bound x) h a = of_bound R fits u (x, h) a
+      behind_bound u (part.Type x) h a = absurd a
+
+      room : Family A
+      room w = if nat_lt 0 w.depth then (S w want.Either >>= f w) else (take_if false >> refuse)
+
+      same : (c : Bool) (p : Parser SizedPart) (g : SizedPart → Parser A) (ts : List Token) → ((if c then p else (take_if false >> refuse)) >>= g) ts ≡ (if c then (p >>= g) else (take_if false >> refuse)) ts
+      same true p g ts = refl
+      same false p g [] = refl
+      same false p g (t ∷ ts) = refl
+
+      deep : (s : Token) (ts : List Token) → parse.begins_part types true (s ∷ ts) ≡ true → Has (λ v y. Q (s ∷ v) y)
+      deep s ts g =
+          let h = begins_part true s ts g in
+          let k = (of_type (0 < w.depth × R) (λ r. fits r.1) (λ r. r.0) (s ∷ h.word) h.value h.is).has in
+          record { word = h.word ++ k.word; value = k.value; is = k.is }
+
+      by : (begins : Bool) → Law R w (λ ts. Any ts × (parse.begins_part types true ts ≡ begins)) (λ w. inside begins w >>= f w) Q
+      by true = view_law (λ w. w) (λ w' ab. ab) (λ w' ab same. same) (λ r. r) (λ r. omega arith) (λ w' ab ts. same (nat_lt 0 w'.depth) (S w' want.Either) (f w') ts)
+          (room_law {p = λ w. S w want.Either >>= f w} (nat_lt 0) (lt_grows 0) (λ g. begins_some true g.1) (λ s ts g. deep s ts g.1)
+          (anywhere (bind (subs (R × (nat_lt 0 w.depth ≡ true)) w d (λ r. fits r.0) (λ r. lt_of 0 w.depth r.1) want.Either) (λ u x a.
+          of_type (R × (nat_lt 0 w.depth ≡ true)) (λ r. fits r.0) (λ r. lt_of 0 w.depth r.1) u x a))))
+      by false = anywhere (bind {p = λ w. bound leaves types w.turns w.depth >>= (λ x. pure (part.Bound x.0, x.1))} {f = f} (map_law {Q = λ u x. Bounded u x.0 x.1} (λ x. (part.Bound x.0, x.1)) (bound_law leaves types R w fits) (λ u x a. a)) (λ u x a. behind_bound u x.0 x.1 a))
 
   named_type_law : (R : Type 0) (w : World) (bare : Bool) (G : List Token → Type 0) → w.depth ≡ n → (R → w.fuel ≤ w.turns) → ((t : Token) (ts : List Token) → G (t ∷ ts) → IsTypeName leaves types t)
       → Law R w G (λ w. parse.named_type leaves types w.turns w.depth (S w) bare) (LType leaves types bare)

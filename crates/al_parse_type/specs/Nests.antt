@@ -18,12 +18,12 @@ Fits depth (part.Bound x) h = h ≤ depth
 
 pub record BoundNests (turns depth : ℕ) (pre : Global → Bor (List ℕ) → Bor (List ℕ) → ℕ → ℕ → MutBor (List Token) → Type 0)
     (post : Global → Bor (List ℕ) → Bor (List ℕ) → ℕ → ℕ → MutBor (List Token) → Result SizedBound ParseError → MutBor (List Token) → Type 0) : Type 0 where
-  pub callable : (alloc : Global) (text types : Bor (List ℕ)) (old : MutBor (List Token)) → depth < 1000 → pre alloc text types turns depth old
+  pub callable : (alloc : Global) (text types : Bor (List ℕ)) (old : MutBor (List Token)) → pre alloc text types turns depth old
   pub reads : (alloc : Global) (text types : Bor (List ℕ)) (old new : MutBor (List Token)) (r : Result SizedBound ParseError) → post alloc text types turns depth old r new
       → Reads (bound_below (leaves_of text.now) types.now turns depth old.now) r new.now × IfOk r (λ x. x.1 < depth)
 
 pub record Nests (turns depth : ℕ) (pre : Global → Bor (List ℕ) → Bor (List ℕ) → ℕ → ℕ → MutBor (List Token) → Want → Type 0)
     (post : Global → Bor (List ℕ) → Bor (List ℕ) → ℕ → ℕ → MutBor (List Token) → Want → Result SizedPart ParseError → MutBor (List Token) → Type 0) : Type 0 where
-  pub callable : (alloc : Global) (text types : Bor (List ℕ)) (old : MutBor (List Token)) (w : Want) → depth < 1000 → pre alloc text types turns depth old w
+  pub callable : (alloc : Global) (text types : Bor (List ℕ)) (old : MutBor (List Token)) (w : Want) → pre alloc text types turns depth old w
   pub reads : (alloc : Global) (text types : Bor (List ℕ)) (old new : MutBor (List Token)) (w : Want) (r : Result SizedPart ParseError) → post alloc text types turns depth old w r new
       → Reads (below (leaves_of text.now) types.now turns depth w old.now) r new.now × IfOk r (λ x. Fits depth x.0 x.1)

@@ -121,7 +121,7 @@ impl<
 > Types<'t, F> {
     pub(crate) fn sub(&self, want: Want, tokens: &mut Cursor<'_>) -> Result<(Part, u32), ParseError>
         requires nests { Nests self.now.turns self.now.depth (F.pre self.now.nested) (F.post self.now.nested) }
-        requires depth { self.now.depth < 999 }
+        requires depth { self.now.depth + 1 < 2 ^ 32 }
         ensures reads { Reads (spec.below (leaves_of self.now.text.now) self.now.types.now self.now.turns self.now.depth want tokens.old) result tokens.new }
         ensures low { IfOk result (λ x. Fits self.now.depth x.0 x.1) }
     {
@@ -133,7 +133,7 @@ impl<
     #[tactic(auto, unfolding(crate::specs::Parse::sub_type))]
     fn sub_type(&self, bare: bool, tokens: &mut Cursor<'_>) -> Result<(TypeTree, u32), ParseError>
         requires nests { Nests self.now.turns self.now.depth (F.pre self.now.nested) (F.post self.now.nested) }
-        requires depth { self.now.depth < 999 }
+        requires depth { self.now.depth + 1 < 2 ^ 32 }
         ensures reads { Reads (spec.sub_type (leaves_of self.now.text.now) self.now.types.now self.now.turns self.now.depth (spec.below (leaves_of self.now.text.now) self.now.types.now self.now.turns self.now.depth) bare tokens.old) result tokens.new }
         ensures low { IfOk result (λ x. x.1 < self.now.depth) }
     {
@@ -154,7 +154,7 @@ impl<
         tokens: &mut Cursor<'_>,
     ) -> Result<(Items<TypeTree>, u32), ParseError>
         requires nests { Nests self.now.turns self.now.depth (F.pre self.now.nested) (F.post self.now.nested) }
-        requires depth { self.now.depth < 999 }
+        requires depth { self.now.depth + 1 < 2 ^ 32 }
         requires height { height < self.now.depth }
         ensures reads { Reads (spec.types_from (leaves_of self.now.text.now) self.now.types.now self.now.turns self.now.depth (spec.below (leaves_of self.now.text.now) self.now.types.now self.now.turns self.now.depth) bare self.now.turns found height tokens.old) result tokens.new }
         ensures low { IfOk result (λ x. x.1 < self.now.depth) }
@@ -181,7 +181,7 @@ impl<
         tokens: &mut Cursor<'_>,
     ) -> Result<ReadBase, ParseError>
         requires nests { Nests self.now.turns self.now.depth (F.pre self.now.nested) (F.post self.now.nested) }
-        requires depth { self.now.depth < 999 }
+        requires depth { self.now.depth + 1 < 2 ^ 32 }
         requires height { x.1 < self.now.depth }
         ensures reads { Reads (spec.arguments_after (leaves_of self.now.text.now) self.now.types.now self.now.turns self.now.depth (spec.below (leaves_of self.now.text.now) self.now.types.now self.now.turns self.now.depth) bare t x tokens.old) result tokens.new }
         ensures low { IfOk result (λ x. x.height ≤ self.now.depth) }
@@ -207,7 +207,7 @@ impl<
         tokens: &mut Cursor<'_>,
     ) -> Result<ReadBase, ParseError>
         requires nests { Nests self.now.turns self.now.depth (F.pre self.now.nested) (F.post self.now.nested) }
-        requires depth { self.now.depth < 999 }
+        requires depth { self.now.depth + 1 < 2 ^ 32 }
         requires height { x.1 < self.now.depth }
         ensures reads { Reads (spec.tuple_after (leaves_of self.now.text.now) self.now.types.now self.now.turns self.now.depth (spec.below (leaves_of self.now.text.now) self.now.types.now self.now.turns self.now.depth) bare at x tokens.old) result tokens.new }
         ensures low { IfOk result (λ x. x.height ≤ self.now.depth) }
@@ -224,7 +224,7 @@ impl<
     #[tactic(auto, unfolding(crate::specs::Parse::tuple))]
     fn tuple(&self, bare: bool, tokens: &mut Cursor<'_>) -> Result<ReadBase, ParseError>
         requires nests { Nests self.now.turns self.now.depth (F.pre self.now.nested) (F.post self.now.nested) }
-        requires depth { self.now.depth < 999 }
+        requires depth { self.now.depth + 1 < 2 ^ 32 }
         ensures reads { Reads (spec.tuple (leaves_of self.now.text.now) self.now.types.now self.now.turns self.now.depth (spec.below (leaves_of self.now.text.now) self.now.types.now self.now.turns self.now.depth) bare tokens.old) result tokens.new }
         ensures low { IfOk result (λ x. x.height ≤ self.now.depth) }
     {
@@ -237,7 +237,7 @@ impl<
     #[tactic(auto, unfolding(crate::specs::Parse::bare_tuple))]
     fn bare_tuple(&self, tokens: &mut Cursor<'_>) -> Result<ReadBase, ParseError>
         requires nests { Nests self.now.turns self.now.depth (F.pre self.now.nested) (F.post self.now.nested) }
-        requires depth { self.now.depth < 999 }
+        requires depth { self.now.depth + 1 < 2 ^ 32 }
         ensures reads { Reads (spec.bare_tuple (leaves_of self.now.text.now) self.now.types.now self.now.turns self.now.depth (spec.below (leaves_of self.now.text.now) self.now.types.now self.now.turns self.now.depth) tokens.old) result tokens.new }
         ensures low { IfOk result (λ x. x.height ≤ self.now.depth) }
     {
@@ -255,7 +255,7 @@ impl<
         tokens: &mut Cursor<'_>,
     ) -> Result<ReadBase, ParseError>
         requires nests { Nests self.now.turns self.now.depth (F.pre self.now.nested) (F.post self.now.nested) }
-        requires depth { self.now.depth < 999 }
+        requires depth { self.now.depth + 1 < 2 ^ 32 }
         requires height { height ≤ self.now.depth }
         ensures reads { Reads (spec.capacity (leaves_of self.now.text.now) self.now.types.now self.now.turns self.now.depth (spec.below (leaves_of self.now.text.now) self.now.types.now self.now.turns self.now.depth) at x height tokens.old) result tokens.new }
         ensures low { IfOk result (λ x. x.height ≤ self.now.depth) }
@@ -284,7 +284,7 @@ impl<
     }
 
     pub(crate) fn bound(&self, tokens: &mut Cursor<'_>) -> Result<(Bound, u32), ParseError>
-        requires depth { self.now.depth < 999 }
+        requires depth { self.now.depth + 1 < 2 ^ 32 }
         ensures reads { Reads (spec.bound (leaves_of self.now.text.now) self.now.types.now self.now.turns self.now.depth tokens.old) result tokens.new }
         ensures low { IfOk result (λ x. x.1 ≤ self.now.depth) }
     {
@@ -296,7 +296,7 @@ impl<
     #[tactic(auto, unfolding(crate::specs::Parse::channel))]
     fn channel(&self, tokens: &mut Cursor<'_>) -> Result<ReadBase, ParseError>
         requires nests { Nests self.now.turns self.now.depth (F.pre self.now.nested) (F.post self.now.nested) }
-        requires depth { self.now.depth < 999 }
+        requires depth { self.now.depth + 1 < 2 ^ 32 }
         ensures reads { Reads (spec.channel (leaves_of self.now.text.now) self.now.types.now self.now.turns self.now.depth (spec.below (leaves_of self.now.text.now) self.now.types.now self.now.turns self.now.depth) tokens.old) result tokens.new }
         ensures low { IfOk result (λ x. x.height ≤ self.now.depth) }
     {
@@ -315,7 +315,7 @@ impl<
         tokens: &mut Cursor<'_>,
     ) -> Result<ReadBase, ParseError>
         requires nests { Nests self.now.turns self.now.depth (F.pre self.now.nested) (F.post self.now.nested) }
-        requires depth { self.now.depth < 999 }
+        requires depth { self.now.depth + 1 < 2 ^ 32 }
         ensures reads { Reads (spec.unnamed (leaves_of self.now.text.now) self.now.types.now self.now.turns self.now.depth (spec.below (leaves_of self.now.text.now) self.now.types.now self.now.turns self.now.depth) bare tokens.old) result tokens.new }
         ensures low { IfOk result (λ x. x.height ≤ self.now.depth) }
     {
@@ -343,7 +343,7 @@ impl<
     #[tactic(auto, unfolding(crate::specs::Parse::named))]
     fn named(&self, bare: bool, tokens: &mut Cursor<'_>) -> Result<ReadBase, ParseError>
         requires nests { Nests self.now.turns self.now.depth (F.pre self.now.nested) (F.post self.now.nested) }
-        requires depth { self.now.depth < 999 }
+        requires depth { self.now.depth + 1 < 2 ^ 32 }
         ensures reads { Reads (spec.named (leaves_of self.now.text.now) self.now.types.now self.now.turns self.now.depth (spec.below (leaves_of self.now.text.now) self.now.types.now self.now.turns self.now.depth) bare tokens.old) result tokens.new }
         ensures low { IfOk result (λ x. x.height ≤ self.now.depth) }
     {
@@ -364,7 +364,7 @@ impl<
         tokens: &mut Cursor<'_>,
     ) -> Result<ReadBase, ParseError>
         requires nests { Nests self.now.turns self.now.depth (F.pre self.now.nested) (F.post self.now.nested) }
-        requires depth { self.now.depth < 999 }
+        requires depth { self.now.depth + 1 < 2 ^ 32 }
         ensures reads { Reads (spec.base_at (leaves_of self.now.text.now) self.now.types.now self.now.turns self.now.depth (spec.below (leaves_of self.now.text.now) self.now.types.now self.now.turns self.now.depth) bare tokens.old) result tokens.new }
         ensures low { IfOk result (λ x. x.height ≤ self.now.depth) }
     {
@@ -383,7 +383,7 @@ impl<
         tokens: &mut Cursor<'_>,
     ) -> Result<(TypeTree, u32), ParseError>
         requires nests { Nests self.now.turns self.now.depth (F.pre self.now.nested) (F.post self.now.nested) }
-        requires depth { self.now.depth < 999 }
+        requires depth { self.now.depth + 1 < 2 ^ 32 }
         ensures reads { Reads (spec.starred_at (leaves_of self.now.text.now) self.now.types.now self.now.turns self.now.depth (spec.below (leaves_of self.now.text.now) self.now.types.now self.now.turns self.now.depth) bare tokens.old) result tokens.new }
         ensures low { IfOk result (λ x. x.1 ≤ self.now.depth) }
     {

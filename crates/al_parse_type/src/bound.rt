@@ -80,7 +80,6 @@ impl<
 > Bounds<'t, F> {
     fn sub(&self, tokens: &mut Cursor<'_>) -> Result<(Bound, u32), ParseError>
         requires nests { BoundNests self.now.turns self.now.depth (F.pre self.now.nested) (F.post self.now.nested) }
-        requires fits { self.now.depth < 1000 }
         ensures reads { Reads (spec.bound_below (leaves_of self.now.text.now) self.now.types.now self.now.turns self.now.depth tokens.old) result tokens.new }
         ensures low { IfOk result (λ x. x.1 < self.now.depth) }
     {
@@ -93,7 +92,6 @@ impl<
     #[tactic(auto, unfolding(crate::specs::Parse::bound_inside))]
     fn bound_inside(&self, tokens: &mut Cursor<'_>) -> Result<(Bound, u32), ParseError>
         requires nests { BoundNests self.now.turns self.now.depth (F.pre self.now.nested) (F.post self.now.nested) }
-        requires fits { self.now.depth < 1000 }
         ensures reads { Reads (spec.bound_inside (leaves_of self.now.text.now) self.now.types.now self.now.turns self.now.depth (spec.bound_below (leaves_of self.now.text.now) self.now.types.now self.now.turns self.now.depth) tokens.old) result tokens.new }
         ensures low { IfOk result (λ x. x.1 ≤ self.now.depth) }
     {
@@ -105,7 +103,6 @@ impl<
     #[tactic(auto, unfolding(crate::specs::Parse::bound_prim))]
     fn bound_prim(&self, tokens: &mut Cursor<'_>) -> Result<(Bound, u32), ParseError>
         requires nests { BoundNests self.now.turns self.now.depth (F.pre self.now.nested) (F.post self.now.nested) }
-        requires fits { self.now.depth < 1000 }
         ensures reads { Reads (spec.bound_prim (leaves_of self.now.text.now) self.now.types.now self.now.turns self.now.depth (spec.bound_below (leaves_of self.now.text.now) self.now.types.now self.now.turns self.now.depth) tokens.old) result tokens.new }
         ensures low { IfOk result (λ x. x.1 ≤ self.now.depth) }
     {
@@ -142,7 +139,6 @@ impl<
         tokens: &mut Cursor<'_>,
     ) -> Result<(Bound, u32), ParseError>
         requires nests { BoundNests self.now.turns self.now.depth (F.pre self.now.nested) (F.post self.now.nested) }
-        requires fits { self.now.depth < 1000 }
         requires height { x.1 ≤ self.now.depth }
         ensures reads { Reads (spec.products_from (leaves_of self.now.text.now) self.now.types.now self.now.turns self.now.depth (spec.bound_below (leaves_of self.now.text.now) self.now.types.now self.now.turns self.now.depth) self.now.turns at x tokens.old) result tokens.new }
         ensures low { IfOk result (λ x. x.1 ≤ self.now.depth) }
@@ -163,7 +159,6 @@ impl<
     #[tactic(auto, unfolding(crate::specs::Parse::bound_term))]
     fn bound_term(&self, tokens: &mut Cursor<'_>) -> Result<(Bound, u32), ParseError>
         requires nests { BoundNests self.now.turns self.now.depth (F.pre self.now.nested) (F.post self.now.nested) }
-        requires fits { self.now.depth < 1000 }
         ensures reads { Reads (spec.bound_term (leaves_of self.now.text.now) self.now.types.now self.now.turns self.now.depth (spec.bound_below (leaves_of self.now.text.now) self.now.types.now self.now.turns self.now.depth) tokens.old) result tokens.new }
         ensures low { IfOk result (λ x. x.1 ≤ self.now.depth) }
     {
@@ -181,7 +176,6 @@ impl<
         tokens: &mut Cursor<'_>,
     ) -> Result<(Bound, u32), ParseError>
         requires nests { BoundNests self.now.turns self.now.depth (F.pre self.now.nested) (F.post self.now.nested) }
-        requires fits { self.now.depth < 1000 }
         requires height { x.1 ≤ self.now.depth }
         ensures reads { Reads (spec.sums_from (leaves_of self.now.text.now) self.now.types.now self.now.turns self.now.depth (spec.bound_below (leaves_of self.now.text.now) self.now.types.now self.now.turns self.now.depth) self.now.turns at x tokens.old) result tokens.new }
         ensures low { IfOk result (λ x. x.1 ≤ self.now.depth) }
@@ -208,7 +202,6 @@ impl<
         tokens: &mut Cursor<'_>,
     ) -> Result<(Bound, u32), ParseError>
         requires nests { BoundNests self.now.turns self.now.depth (F.pre self.now.nested) (F.post self.now.nested) }
-        requires fits { self.now.depth < 1000 }
         requires height { x.1 ≤ self.now.depth }
         ensures reads { Reads (spec.bound_after (leaves_of self.now.text.now) self.now.types.now self.now.turns self.now.depth (spec.bound_below (leaves_of self.now.text.now) self.now.types.now self.now.turns self.now.depth) at x tokens.old) result tokens.new }
         ensures low { IfOk result (λ x. x.1 ≤ self.now.depth) }
@@ -221,7 +214,6 @@ impl<
     #[tactic(auto, unfolding(crate::specs::Parse::bound_at))]
     pub(crate) fn bound_at(&self, tokens: &mut Cursor<'_>) -> Result<(Bound, u32), ParseError>
         requires nests { BoundNests self.now.turns self.now.depth (F.pre self.now.nested) (F.post self.now.nested) }
-        requires fits { self.now.depth < 1000 }
         ensures reads { Reads (spec.bound_at (leaves_of self.now.text.now) self.now.types.now self.now.turns self.now.depth (spec.bound_below (leaves_of self.now.text.now) self.now.types.now self.now.turns self.now.depth) tokens.old) result tokens.new }
         ensures low { IfOk result (λ x. x.1 ≤ self.now.depth) }
     {
@@ -241,7 +233,6 @@ pub(crate) fn bound_below(
     depth: u32,
     tokens: &mut Cursor<'_>,
 ) -> Result<(Bound, u32), ParseError>
-    requires fits { depth < 1000 }
     ensures reads { Reads (spec.bound_below (leaves_of text.now) types.now turns depth tokens.old) result tokens.new }
     ensures low { IfOk result (λ x. x.1 < depth) }
 {
@@ -269,7 +260,6 @@ pub fn bound_within(
     depth: u32,
     tokens: &mut Cursor<'_>,
 ) -> Result<(Bound, u32), ParseError>
-    requires fits { depth < 1000 }
     ensures reads { Reads (spec.bound (leaves_of text.now) types.now turns depth tokens.old) result tokens.new }
     ensures low { IfOk result (λ x. x.1 ≤ depth) }
 {

@@ -45,7 +45,6 @@ pub fn bounds_from(
     mut height: u32,
     tokens: &mut Cursor<'_>,
 ) -> Result<(Items<Bound>, u32), ParseError>
-    requires depth { depth < 999 }
     requires height { height ≤ depth }
     ensures reads { Reads (spec.bounds_from (leaves_of text.now) types.now turns depth turns found height tokens.old) result tokens.new }
     ensures low { IfOk result (λ x. x.1 ≤ depth) }
@@ -118,7 +117,6 @@ pub fn dcl_within(
     tokens: &mut Cursor<'_>,
 ) -> Result<(Dcl, u32), ParseError>
     requires turns { turns < 2 ^ 32 }
-    requires depth { depth < 999 }
     ensures reads { Reads (spec.dcl (leaves_of text.now) types.now turns depth tokens.old) result tokens.new }
     ensures low { IfOk result (λ x. x.1 ≤ depth) }
 {

@@ -2,7 +2,7 @@ use al_tree::{Bound, TypeTree};
 
 /// What stands in brackets behind a type's name: a type argument, or the bound of an array.
 #[derive(Drop)]
-pub(crate) enum Part {
+pub enum Part {
     Type(TypeTree),
     Bound(Bound),
 }

@@ -5,6 +5,7 @@ ghost use Rattle.al_tree.specs.Reading.{Reads};
 ghost use Rattle.al_tree.specs.Types as rules;
 ghost use Rattle.al_parse_type.specs.Parse as spec;
 ghost use Rattle.al_parse_type.specs.Nests.{Nests, Fits};
+ghost use Rattle.al_parse_type.specs.Within as within;
 
 use crate::base::{Types, begins_part, named_by, part_wanted, sees_type, sized_base};
 use crate::bound::{Bounds, bound_below, bound_within};
@@ -38,7 +39,7 @@ impl<
         tokens: &mut Cursor<'_>,
     ) -> Result<(TypeTree, u32), ParseError>
         requires nests { Nests self.now.turns self.now.depth (F.pre self.now.nested) (F.post self.now.nested) }
-        requires depth { self.now.depth < 999 }
+        requires depth { self.now.depth + 1 < 2 ^ 32 }
         requires height { x.height ≤ self.now.depth }
         ensures reads { Reads (spec.type_after (leaves_of self.now.text.now) self.now.types.now self.now.turns self.now.depth (spec.below (leaves_of self.now.text.now) self.now.types.now self.now.turns self.now.depth) at x tokens.old) result tokens.new }
         ensures low { IfOk result (λ x. x.1 ≤ self.now.depth) }
@@ -59,7 +60,7 @@ impl<
         height: u32,
         tokens: &mut Cursor<'_>,
     ) -> Result<(Items<Bound>, u32), ParseError>
-        requires depth { self.now.depth < 999 }
+        requires depth { self.now.depth + 1 < 2 ^ 32 }
         requires height { height ≤ self.now.depth }
         ensures reads { Reads (spec.bounds_from (leaves_of self.now.text.now) self.now.types.now self.now.turns self.now.depth self.now.turns found height tokens.old) result tokens.new }
         ensures low { IfOk result (λ x. x.1 ≤ self.now.depth) }
@@ -78,7 +79,7 @@ impl<
         tokens: &mut Cursor<'_>,
     ) -> Result<(TypeTree, u32), ParseError>
         requires nests { Nests self.now.turns self.now.depth (F.pre self.now.nested) (F.post self.now.nested) }
-        requires depth { self.now.depth < 999 }
+        requires depth { self.now.depth + 1 < 2 ^ 32 }
         requires height { n.1 ≤ self.now.depth }
         ensures reads { Reads (spec.array_of (leaves_of self.now.text.now) self.now.types.now self.now.turns self.now.depth (spec.below (leaves_of self.now.text.now) self.now.types.now self.now.turns self.now.depth) t n tokens.old) result tokens.new }
         ensures low { IfOk result (λ x. x.1 ≤ self.now.depth) }
@@ -100,7 +101,7 @@ impl<
         tokens: &mut Cursor<'_>,
     ) -> Result<(TypeTree, u32), ParseError>
         requires nests { Nests self.now.turns self.now.depth (F.pre self.now.nested) (F.post self.now.nested) }
-        requires depth { self.now.depth < 999 }
+        requires depth { self.now.depth + 1 < 2 ^ 32 }
         requires height { Fits self.now.depth x.0 x.1 }
         ensures reads { Reads (spec.bracketed (leaves_of self.now.text.now) self.now.types.now self.now.turns self.now.depth (spec.below (leaves_of self.now.text.now) self.now.types.now self.now.turns self.now.depth) bare t x tokens.old) result tokens.new }
         ensures low { IfOk result (λ x. x.1 ≤ self.now.depth) }
@@ -124,7 +125,7 @@ impl<
         tokens: &mut Cursor<'_>,
     ) -> Result<(TypeTree, u32), ParseError>
         requires nests { Nests self.now.turns self.now.depth (F.pre self.now.nested) (F.post self.now.nested) }
-        requires depth { self.now.depth < 999 }
+        requires depth { self.now.depth + 1 < 2 ^ 32 }
         ensures reads { Reads (spec.bracket_part (leaves_of self.now.text.now) self.now.types.now self.now.turns self.now.depth (spec.below (leaves_of self.now.text.now) self.now.types.now self.now.turns self.now.depth) bare t tokens.old) result tokens.new }
         ensures low { IfOk result (λ x. x.1 ≤ self.now.depth) }
     {
@@ -141,7 +142,7 @@ impl<
         tokens: &mut Cursor<'_>,
     ) -> Result<(TypeTree, u32), ParseError>
         requires nests { Nests self.now.turns self.now.depth (F.pre self.now.nested) (F.post self.now.nested) }
-        requires depth { self.now.depth < 999 }
+        requires depth { self.now.depth + 1 < 2 ^ 32 }
         ensures reads { Reads (spec.bracket (leaves_of self.now.text.now) self.now.types.now self.now.turns self.now.depth (spec.below (leaves_of self.now.text.now) self.now.types.now self.now.turns self.now.depth) bare t tokens.old) result tokens.new }
         ensures low { IfOk result (λ x. x.1 ≤ self.now.depth) }
     {
@@ -158,11 +159,32 @@ impl<
         }
     }
 
+    /// What stands in brackets behind the name of a type, behind the one that opens.
+    #[tactic(auto, unfolding(crate::specs::Within::inside_within))]
+    pub(crate) fn inside(&self, tokens: &mut Cursor<'_>) -> Result<(Part, u32), ParseError>
+        requires nests { Nests self.now.turns self.now.depth (F.pre self.now.nested) (F.post self.now.nested) }
+        requires depth { self.now.depth + 1 < 2 ^ 32 }
+        ensures reads { Reads (within.inside_within (leaves_of self.now.text.now) self.now.types.now self.now.turns self.now.depth tokens.old) result tokens.new }
+        ensures low { IfOk result (λ x. Fits self.now.depth x.0 x.1) }
+    {
+        if begins_part(self.types, true, tokens) {
+            if 0 < self.depth {
+                self.sub(Want::Either, tokens)
+            } else {
+                tokens.take_if(false)?;
+                Err(tokens.refuse())
+            }
+        } else {
+            let x = self.bound(tokens)?;
+            Ok((Part::Bound(x.0), x.1))
+        }
+    }
+
     /// A type that begins with a type's name.
     #[tactic(auto, unfolding(crate::specs::Parse::named_type))]
     fn named_type(&self, bare: bool, tokens: &mut Cursor<'_>) -> Result<(TypeTree, u32), ParseError>
         requires nests { Nests self.now.turns self.now.depth (F.pre self.now.nested) (F.post self.now.nested) }
-        requires depth { self.now.depth < 999 }
+        requires depth { self.now.depth + 1 < 2 ^ 32 }
         ensures reads { Reads (spec.named_type (leaves_of self.now.text.now) self.now.types.now self.now.turns self.now.depth (spec.below (leaves_of self.now.text.now) self.now.types.now self.now.turns self.now.depth) bare tokens.old) result tokens.new }
         ensures low { IfOk result (λ x. x.1 ≤ self.now.depth) }
     {
@@ -183,7 +205,7 @@ impl<
         tokens: &mut Cursor<'_>,
     ) -> Result<(TypeTree, u32), ParseError>
         requires nests { Nests self.now.turns self.now.depth (F.pre self.now.nested) (F.post self.now.nested) }
-        requires depth { self.now.depth < 999 }
+        requires depth { self.now.depth + 1 < 2 ^ 32 }
         ensures reads { Reads (spec.type_at (leaves_of self.now.text.now) self.now.types.now self.now.turns self.now.depth (spec.below (leaves_of self.now.text.now) self.now.types.now self.now.turns self.now.depth) bare tokens.old) result tokens.new }
         ensures low { IfOk result (λ x. x.1 ≤ self.now.depth) }
     {
@@ -202,7 +224,7 @@ impl<
         x: (Bound, u32),
         tokens: &mut Cursor<'_>,
     ) -> Result<(Bound, u32), ParseError>
-        requires depth { self.now.depth < 999 }
+        requires depth { self.now.depth + 1 < 2 ^ 32 }
         requires height { x.1 ≤ self.now.depth + 1 }
         ensures reads { Reads (spec.bound_after (leaves_of self.now.text.now) self.now.types.now self.now.turns (self.now.depth + 1) (spec.bound_below (leaves_of self.now.text.now) self.now.types.now self.now.turns (self.now.depth + 1)) at x tokens.old) result tokens.new }
         ensures low { IfOk result (λ x. x.1 ≤ self.now.depth + 1) }
@@ -226,7 +248,7 @@ impl<
         tokens: &mut Cursor<'_>,
     ) -> Result<(Part, u32), ParseError>
         requires nests { Nests self.now.turns self.now.depth (F.pre self.now.nested) (F.post self.now.nested) }
-        requires depth { self.now.depth < 999 }
+        requires depth { self.now.depth + 1 < 2 ^ 32 }
         requires height { x.1 ≤ self.now.depth }
         ensures reads { Reads (spec.closed_bound (leaves_of self.now.text.now) self.now.types.now self.now.turns self.now.depth (spec.below (leaves_of self.now.text.now) self.now.types.now self.now.turns self.now.depth) at x tokens.old) result tokens.new }
         ensures low { IfOk result (λ x. Fits (self.now.depth + 1) x.0 x.1) }
@@ -244,7 +266,7 @@ impl<
         tokens: &mut Cursor<'_>,
     ) -> Result<(Part, u32), ParseError>
         requires nests { Nests self.now.turns self.now.depth (F.pre self.now.nested) (F.post self.now.nested) }
-        requires depth { self.now.depth < 999 }
+        requires depth { self.now.depth + 1 < 2 ^ 32 }
         requires height { x.1 < self.now.depth }
         ensures reads { Reads (spec.closed_type (leaves_of self.now.text.now) self.now.types.now self.now.turns self.now.depth (spec.below (leaves_of self.now.text.now) self.now.types.now self.now.turns self.now.depth) at x tokens.old) result tokens.new }
         ensures low { IfOk result (λ x. Fits (self.now.depth + 1) x.0 x.1) }
@@ -262,7 +284,7 @@ impl<
         tokens: &mut Cursor<'_>,
     ) -> Result<(Part, u32), ParseError>
         requires nests { Nests self.now.turns self.now.depth (F.pre self.now.nested) (F.post self.now.nested) }
-        requires depth { self.now.depth < 999 }
+        requires depth { self.now.depth + 1 < 2 ^ 32 }
         requires height { Fits self.now.depth x.0 x.1 }
         ensures reads { Reads (spec.parenthesised (leaves_of self.now.text.now) self.now.types.now self.now.turns self.now.depth (spec.below (leaves_of self.now.text.now) self.now.types.now self.now.turns self.now.depth) at x tokens.old) result tokens.new }
         ensures low { IfOk result (λ x. Fits (self.now.depth + 1) x.0 x.1) }
@@ -278,7 +300,7 @@ impl<
     #[tactic(auto, unfolding(crate::specs::Parse::parenthesis))]
     fn parenthesis(&self, at: Place, tokens: &mut Cursor<'_>) -> Result<(Part, u32), ParseError>
         requires nests { Nests self.now.turns self.now.depth (F.pre self.now.nested) (F.post self.now.nested) }
-        requires depth { self.now.depth < 999 }
+        requires depth { self.now.depth + 1 < 2 ^ 32 }
         ensures reads { Reads (spec.parenthesis (leaves_of self.now.text.now) self.now.types.now self.now.turns self.now.depth (spec.below (leaves_of self.now.text.now) self.now.types.now self.now.turns self.now.depth) at tokens.old) result tokens.new }
         ensures low { IfOk result (λ x. Fits (self.now.depth + 1) x.0 x.1) }
     {
@@ -300,7 +322,7 @@ impl<
     #[tactic(auto, unfolding(crate::specs::Parse::either_at))]
     fn either_at(&self, tokens: &mut Cursor<'_>) -> Result<(Part, u32), ParseError>
         requires nests { Nests self.now.turns self.now.depth (F.pre self.now.nested) (F.post self.now.nested) }
-        requires depth { self.now.depth < 999 }
+        requires depth { self.now.depth + 1 < 2 ^ 32 }
         ensures reads { Reads (spec.either_at (leaves_of self.now.text.now) self.now.types.now self.now.turns self.now.depth (spec.below (leaves_of self.now.text.now) self.now.types.now self.now.turns self.now.depth) tokens.old) result tokens.new }
         ensures low { IfOk result (λ x. Fits (self.now.depth + 1) x.0 x.1) }
     {
@@ -326,7 +348,7 @@ impl<
     #[tactic(auto)]
     fn at_want(&self, want: Want, tokens: &mut Cursor<'_>) -> Result<(Part, u32), ParseError>
         requires nests { Nests self.now.turns self.now.depth (F.pre self.now.nested) (F.post self.now.nested) }
-        requires depth { self.now.depth < 999 }
+        requires depth { self.now.depth + 1 < 2 ^ 32 }
         ensures reads { Reads (spec.at_want (leaves_of self.now.text.now) self.now.types.now self.now.turns self.now.depth (spec.below (leaves_of self.now.text.now) self.now.types.now self.now.turns self.now.depth) want tokens.old) result tokens.new }
         ensures low { IfOk result (λ x. Fits (self.now.depth + 1) x.0 x.1) }
     {
@@ -355,7 +377,6 @@ pub(crate) fn below(
     tokens: &mut Cursor<'_>,
     want: Want,
 ) -> Result<(Part, u32), ParseError>
-    requires depth { depth < 999 }
     ensures reads { Reads (spec.below (leaves_of text.now) types.now turns depth want tokens.old) result tokens.new }
     ensures low { IfOk result (λ x. Fits depth x.0 x.1) }
 {
