@@ -1,5 +1,7 @@
 -- What is known of each way to read a declaration where the fault furthest on is found.
 use Rattle.std.proofs.Common.{◌≡◌, ◌≢◌, ℕ, zero, suc, ◌+◌, ◌<◌, ◌≤◌, ◌==◌, ◌⊎◌, inl, inr, min, Bool, true, false, if◌then◌else◌, List, [], ◌∷◌, ◌++◌, length, drop, get_or, Option, Some, None, Ok, Err, refl, sym, ap, ◌∙◌, subst, arith}
+use Rattle.std.specs.List.{All}
+use Rattle.std.proofs.lemmas.List.Elements.{All-tail}
 use Rattle.std.proofs.lemmas.Bool.{cases_lt}
 use Rattle.std.proofs.lemmas.Bool.Decides.{eqb_tells}
 use Rattle.std.proofs.lemmas.List.{drop_more, drop_all}
@@ -14,6 +16,10 @@ use Rattle.al_parse_stmt.specs.Begun.{Begun, owners, left_with, less_left, least
 abbrev pub Each : (Option ℕ → Type 0) → List ℕ → Type 0
 Each P [] = Unit {0}
 Each P (n ∷ ns) = P (Some n) × Each P ns
+
+pub all_each : (P : Option ℕ → Type 0) (ns : List ℕ) → All (λ n. P (Some n)) ns → Each P ns
+all_each P [] h = tt
+all_each P (n ∷ ns) h = (h 0 n (omega arith), all_each P ns (All-tail (λ n. P (Some n)) n ns h))
 
 pub each_of : (P Q : Option ℕ → Type 0) (ns : List ℕ) → ((o : Option ℕ) → P o → Q o) → Each P ns → Each Q ns
 each_of P Q [] k h = tt

@@ -36,7 +36,7 @@ use Rattle.al_parse_member.proofs.Sound.{Sound, pure_sound, refuse_sound, bind_s
 use Rattle.al_parse_member.proofs.ParameterSound.{other_name_sound, other_name_guard, bases, stars, all_bounds, list_sound}
 use Rattle.al_parse_member.proofs.MemberSound.{enum_sound, member_sound, members_sound, adt_members_sound}
 use Rattle.al_parse_stmt.specs.Ahead.{owner_ahead, owner_of, inside_of}
-use Rattle.al_parse_stmt.specs.Begun.{Begun, owners, settled, begins, begun_as, begun}
+use Rattle.al_parse_stmt.specs.Begun.{Begun, begins, begun_as}
 use Rattle.al_parse_stmt.specs.Heads.{SizedDeclarator, new_names_from, declarator, declarator_after}
 use Rattle.al_parse_stmt.specs.Parse as parse
 use Rattle.al_parse_stmt.specs.Parse.{ReadItem, built}
@@ -346,12 +346,13 @@ module _ (leaves : Leaves) (F n : ℕ) (d : Declared) where
       ∙ ap (λ o. and_then o (λ x. parse.behind_first leaves F n d at scope y.0 x.0 x.1)) (sym (tie leaves F n d owner p.behind first))
       ∙ ap (λ o. and_then (and_then o (λ q. declarator_after leaves F n d q)) (λ x. parse.behind_first leaves F n d at scope y.0 x.0 x.1)) p.name
 
-  as_among : (at : Place) (scope : Option Scope) (ts : List Token) (o : Outcome Begun) → begun_as leaves F n d (owner_of d F ts) ts ≡ o → (x : ReadItem) (r : List Token) → and_then (settled (λ owner. begun_as leaves F n d owner ts) (owners d.adts) o) (rest at scope) ≡ Ok (x, r) → among at scope (inside_ahead d F ts) ts ≡ Ok (x, r)
+  as_among : (at : Place) (scope : Option Scope) (ts : List Token) (o : Outcome Begun) → begun_as leaves F n d (owner_of d F ts) ts ≡ o → (x : ReadItem) (r : List Token) → parse.declared_by leaves F n d at scope ts (owner_of d F ts) o ≡ Ok (x, r) → among at scope (inside_ahead d F ts) ts ≡ Ok (x, r)
+  unfolding parse.behind_begun
   as_among at scope ts (Ok y) e x r h = read_among at scope ts y.0 y.1 e ∙ h
   as_among at scope ts (Err f) e x r h = absurd (never_ok _ (x, r) h)
 
   declared_sound : (at : Place) (scope : Option Scope) (s : List Token) → IsScope leaves d.types s scope → Sound F (Placed at s) (parse.declared leaves F n d at scope) (λ r y. LItem leaves d (s ++ r) y)
-  unfolding parse.declared parse.behind_begun begun
+  unfolding parse.declared
   declared_sound at scope s word = record { run = λ ts g short x r e. (among_sound at scope s word).run ts g short x r (as_among at scope ts (begun_as leaves F n d (owner_of d F ts) ts) refl x r e) }
 
   scoped_sound : (word : Scope) {G : List Token → Type 0} → ((t : Token) (ts : List Token) → G (t ∷ ts) → scope_word t.kind ≡ Some word) → Sound F G (parse.scoped leaves F n d word) (LItem leaves d)

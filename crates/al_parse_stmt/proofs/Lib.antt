@@ -18,8 +18,7 @@ pub mod ItemEnds
 pub mod HeadComplete
 pub mod ItemComplete
 pub mod TextIs
-pub mod HeadSteady
 pub mod Furthest
-pub mod BegunSteady
-pub mod ItemSteady
-pub mod TextSteady
+pub mod FirstTokens
+pub mod DeclaredFault
+pub mod DeclaredJudge
