@@ -43,7 +43,7 @@ use Rattle.al_parse_member.proofs.ParameterComplete.{parameter_list_c as list_c}
 use Rattle.al_parse_member.proofs.MemberComplete.{members_within_c, adt_body_c, enum_body_c, adt_members_high}
 use Rattle.al_parse_stmt.specs.declared.heads.FirstName.{FirstName}
 use Rattle.al_parse_stmt.specs.Ahead.{owner_of, inside_of}
-use Rattle.al_parse_stmt.specs.Begun.{Begun, owners, settled, begins, begun_as, begun}
+use Rattle.al_parse_stmt.specs.Begun.{Begun, begins, begun_as}
 use Rattle.al_parse_stmt.specs.Heads.{SizedDeclarator, new_names_from, declarator, declarator_after, declarators_from}
 use Rattle.al_parse_stmt.specs.Parse as parse
 use Rattle.al_parse_stmt.specs.Parse.{ReadItem, built}
@@ -330,15 +330,12 @@ module _ (leaves : Leaves) (F n : ℕ) (d : Declared) where
   -- ---- declarations and functions
 
   -- what is read in the way that is found ahead is read
-  begun_is : (owner : Option ℕ) (ts r : List Token) (y : Begun) → owner_of d F ts ≡ owner → begun_as leaves F n d owner ts ≡ Ok (y, r) → begun leaves F n d ts ≡ Ok (y, r)
-  unfolding begun
-  begun_is owner ts r y e h = ap (λ o. settled (λ o. begun_as leaves F n d o ts) (owners d.adts) (begun_as leaves F n d o ts)) e ∙ ap (settled (λ o. begun_as leaves F n d o ts) (owners d.adts)) h
-
-  declared_is : (at : Place) (scope : Option Scope) (ts r1 r2 : List Token) (y : Begun) (x : SizedDeclarator) → begun leaves F n d ts ≡ Ok (y, r1) → declarator_after leaves F n d y.1 r1 ≡ Ok (x, r2)
+  declared_is : (at : Place) (scope : Option Scope) (owner : Option ℕ) (ts r1 r2 : List Token) (y : Begun) (x : SizedDeclarator) → owner_of d F ts ≡ owner → begun_as leaves F n d owner ts ≡ Ok (y, r1) → declarator_after leaves F n d y.1 r1 ≡ Ok (x, r2)
       → parse.declared leaves F n d at scope ts ≡ parse.behind_first leaves F n d at scope y.0 x.0 x.1 r2
   unfolding parse.declared parse.behind_begun
-  declared_is at scope ts r1 r2 y x e f =
-      ap (λ o. and_then o (λ y. declarator_after leaves F n d y.1 >>= (λ x. parse.behind_first leaves F n d at scope y.0 x.0 x.1))) e
+  declared_is at scope owner ts r1 r2 y x e h f =
+      ap (λ o. parse.declared_by leaves F n d at scope ts o (begun_as leaves F n d o ts)) e
+      ∙ ap (parse.declared_by leaves F n d at scope ts owner) h
       ∙ ap (λ o. and_then o (λ x. parse.behind_first leaves F n d at scope y.0 x.0 x.1)) f
 
   step_declared : (at : Place) (scope : Option Scope) (inside : List ℕ) (ts r1 r2 : List Token) (b : ReadBase) (x : SizedDeclarator) → owner_of d F ts ≡ owner_at d F r1 → inside_behind d F r1 ≡ inside → base_within leaves (with_names d.types inside) F n ts ≡ Ok (b, r1) → declarator leaves F n d r1 ≡ Ok (x, r2)
@@ -349,7 +346,7 @@ module _ (leaves : Leaves) (F n : ℕ) (d : Declared) where
       base = ap (λ l. base_within leaves (with_names d.types l) F n ts) (inside_at d F r1 ∙ i) ∙ e2
 
       by : (o : Outcome FirstName) → begins d F (owner_at d F r1) r1 ≡ o → and_then o (λ z. declarator_after leaves F n d z) ≡ declarator leaves F n d r1 → parse.declared leaves F n d at scope ts ≡ parse.behind_first leaves F n d at scope b x.0 x.1 r2
-      by (Ok z) h g = declared_is at scope ts z.1 r2 (b, z.0) x (begun_is (owner_at d F r1) ts z.1 (b, z.0) e (from_parts leaves F n d (owner_at d F r1) ts r1 z.1 b z.0 base h)) (g ∙ e3)
+      by (Ok z) h g = declared_is at scope (owner_at d F r1) ts z.1 r2 (b, z.0) x e (from_parts leaves F n d (owner_at d F r1) ts r1 z.1 b z.0 base h) (g ∙ e3)
       by (Err f) h g = absurd (never_ok f (x, r2) (g ∙ e3))
 
   behind_more : (at : Place) (scope : Option Scope) (b : ReadBase) (x : Declarator) (h : ℕ) (r : List Token) → Follow r → parse.behind_first leaves F n d at scope b x h r ≡ parse.declared_more leaves F n d at scope b (x, h) r

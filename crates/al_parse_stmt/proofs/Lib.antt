@@ -1,8 +1,9 @@
-pub mod Outcomes
-pub mod Judge
 pub mod NamesAre
 pub mod KeptNames
 pub mod LastFirst
+pub mod FirstTokens
+pub mod Outcomes
+pub mod Judge
 pub mod Balanced
 pub mod Facts
 pub mod Declared
@@ -11,9 +12,14 @@ pub mod LawSteps
 pub mod HeadLaw
 pub mod ItemLaw
 pub mod Begins
+pub mod BegunLaw
+pub mod NeverDeep
+pub mod Ways
+pub mod ItemEnds
 pub mod HeadComplete
 pub mod ItemComplete
 pub mod Furthest
+pub mod DeclaredFault
 pub mod FitsKept
 pub mod DeclaredJudge
 pub mod ItemJudge

@@ -2,8 +2,9 @@
 --
 -- The parameters of an adt may stand as types in the base type, before the adt's name does. So a declaration is read in several ways:
 -- without parameters, and with those of each adt, which has to be the one that its first declarator names with a bracket. What is read
--- is read in one way alone. Where there is none, the fault is the one furthest on.
-use Rattle.std.specs.Prelude.{ℕ, ◌==◌, min, Bool, true, false, not, if◌then◌else◌, List, [], ◌∷◌, ◌++◌, Option, Some, None, Ok, Err}
+-- is read in one way alone. Where there is none, the fault is at the token that is furthest on, and too deep there only if some way goes on
+-- with that token.
+use Rattle.std.specs.Prelude.{ℕ, zero, suc, ◌+◌, ◌-◌, ◌==◌, min, Bool, true, false, not, if◌then◌else◌, List, [], ◌∷◌, ◌++◌, length, take, Option, Some, None, Ok, Err}
 use Rattle.al_base.specs.declared.place.Place.{Place}
 use Rattle.al_lex.specs.declared.kind.TokenKind.{TokenKind}
 use Rattle.al_lex.specs.declared.kind.TokenKind.TheVariants as k
@@ -17,7 +18,7 @@ use Rattle.al_parse_type.specs.declared.part.ReadBase.{ReadBase}
 use Rattle.al_parse_type.specs.Parse.{sees_type_name, other_name, stars_from}
 use Rattle.al_parse_type.specs.Within.{base_within}
 use Rattle.al_parse_stmt.specs.declared.heads.FirstName.{FirstName}
-use Rattle.al_parse_stmt.specs.Ahead.{some_parameters, owner_of, inside_of}
+use Rattle.al_parse_stmt.specs.Ahead.{some_parameters, inside_of}
 
 abbrev pub Begun : Type 0
 Begun = ReadBase × FirstName
@@ -43,28 +44,48 @@ abbrev pub owners : List Parametrised → List ℕ
 owners [] = []
 owners (a ∷ rest) = owners rest ++ a.adt ∷ []
 
--- of two faults the one further on; what is too deep in one way is too deep
-abbrev pub further : ParseError → ParseError → ParseError
-further NoMemory y = NoMemory
-further (Stuck m) NoMemory = NoMemory
-further (Stuck m) (Stuck n) = Stuck (min m n)
-further (Stuck m) (Deep n) = Deep n
-further (Deep m) NoMemory = NoMemory
-further (Deep m) (Stuck n) = Deep m
-further (Deep m) (Deep n) = Deep (min m n)
+-- how many tokens are left with the one that a fault names
+abbrev pub left_with : ParseError → ℕ
+left_with NoMemory = 0
+left_with (Stuck n) = n
+left_with (Deep n) = n + 1
 
-abbrev pub further_by : Outcome Begun → ParseError → ParseError
-further_by (Ok x) e = e
-further_by (Err f) e = further f e
+abbrev pub nearer : ParseError → ℕ → ℕ
+nearer e n = min (left_with e) n
 
-unfoldable pub furthest : (Option ℕ → Outcome Begun) → List ℕ → ParseError → ParseError
-furthest f [] e = e
-furthest f (n ∷ ns) e = furthest f ns (further_by (f (Some n)) e)
+abbrev pub less_left : Outcome Begun → ℕ → ℕ
+less_left (Ok x) n = n
+less_left (Err e) n = nearer e n
 
--- the fault of a declaration that is read in none of these ways
-abbrev pub settled : (Option ℕ → Outcome Begun) → List ℕ → Outcome Begun → Outcome Begun
-settled f ns (Ok x) = Ok x
-settled f ns (Err e) = Err (furthest f ns (further_by (f None) e))
+-- the least of that and of what the faults of these ways leave
+unfoldable pub least_left : (Option ℕ → Outcome Begun) → List ℕ → ℕ → ℕ
+least_left f [] n = n
+least_left f (x ∷ xs) n = least_left f xs (less_left (f (Some x)) n)
+
+-- the tokens up to and with the one that leaves so many
+abbrev pub up_to : ℕ → List Token → List Token
+up_to left ts = take (length ts - (left - 1)) ts
+
+-- whether the tokens are read or can go on
+abbrev pub can_go_on : Outcome Begun → Bool
+can_go_on (Ok x) = true
+can_go_on (Err (Stuck zero)) = true
+can_go_on (Err e) = false
+
+-- whether a way goes on with the token that leaves so many, by its outcome and by the one of the tokens up to there with more levels
+abbrev pub alive_by : ℕ → Outcome Begun → Outcome Begun → Bool
+alive_by left (Err (Deep m)) deeper = if m + 1 == left then true else can_go_on deeper
+alive_by left o deeper = false
+
+unfoldable pub some_alive : (Option ℕ → Bool) → List ℕ → Bool
+some_alive f [] = false
+some_alive f (x ∷ xs) = if f (Some x) then true else some_alive f xs
+
+-- the fault at the token that leaves so many
+abbrev pub fault_at : ℕ → Bool → ParseError
+fault_at zero alive = Stuck 0
+fault_at (suc n) true = Deep n
+fault_at (suc n) false = Stuck (suc n)
 
 module _ (d : Declared) (turns : ℕ) (owner : Option ℕ) where
   unfoldable pub lender : Place → ℕ → Parser FirstName
@@ -92,12 +113,26 @@ module _ (d : Declared) (turns : ℕ) (owner : Option ℕ) where
     is_type ← looks (sees_type_name d.types)
     if is_type then adt_name at stars else new_name owner at stars
 
-module _ (leaves : Leaves) (turns depth : ℕ) (d : Declared) where
-  unfoldable pub begun_as : Option ℕ → Parser Begun
-  begun_as owner = do
-    b ← base_within leaves (with_names d.types (inside_of d owner)) turns depth
-    y ← begins d turns owner
-    pure (b, y)
+unfoldable pub begun_as : Leaves → ℕ → ℕ → Declared → Option ℕ → Parser Begun
+begun_as leaves turns depth d owner = do
+  b ← base_within leaves (with_names d.types (inside_of d owner)) turns depth
+  y ← begins d turns owner
+  pure (b, y)
 
-  unfoldable pub begun : Parser Begun
-  begun ts = settled (λ owner. begun_as owner ts) (owners d.adts) (begun_as (owner_of d turns ts) ts)
+-- the same with as many levels as tokens may be left
+abbrev pub deeper_as : Leaves → ℕ → Declared → Option ℕ → Parser Begun
+deeper_as leaves turns d owner = begun_as leaves turns (turns - 1) d owner
+
+-- ---- the fault of tokens that are read in no way
+
+module _ (leaves : Leaves) (turns depth : ℕ) (d : Declared) (ts : List Token) where
+  -- how many tokens the fault furthest on leaves, where some way has that fault
+  unfoldable pub least : ParseError → ℕ
+  least e = least_left (λ owner. begun_as leaves turns depth d owner ts) (owners d.adts) (less_left (begun_as leaves turns depth d None ts) (nearer e (length ts)))
+
+  abbrev pub alive : ℕ → Option ℕ → Bool
+  alive left owner = alive_by left (begun_as leaves turns depth d owner ts) (deeper_as leaves turns d owner (up_to left ts))
+
+  -- whether some way goes on with the token that leaves so many
+  unfoldable pub any_alive : ℕ → Bool
+  any_alive left = if alive left None then true else some_alive (alive left) (owners d.adts)

@@ -1,7 +1,7 @@
 -- The parser of items and of whole texts, on lists of tokens.
 --
 -- Loops make at most `turns` turns. An item has at most `depth + 1` levels; what stands in it has at most `depth`.
-use Rattle.std.specs.Prelude.{ℕ, zero, suc, ◌+◌, max, nat_lt, Bool, true, false, if◌then◌else◌, List, [], ◌∷◌, ◌++◌, map, Option, Some, None}
+use Rattle.std.specs.Prelude.{ℕ, zero, suc, ◌+◌, ◌-◌, ◌==◌, max, nat_lt, Bool, true, false, if◌then◌else◌, List, [], ◌∷◌, ◌++◌, length, map, Option, Some, None, Ok, Err}
 use Rattle.al_base.specs.declared.place.Place.{Place}
 use Rattle.al_lex.specs.declared.kind.TokenKind.{TokenKind}
 use Rattle.al_lex.specs.declared.kind.TokenKind.TheVariants as k
@@ -9,7 +9,9 @@ use Rattle.al_lex.specs.declared.token.Token.{Token}
 use Rattle.al_tree.specs.Words.{scope_word}
 use Rattle.al_tree.specs.Types.{Leaves, with_name, with_names, name_at}
 use Rattle.al_tree.specs.Items.{Declared, nothing_declared, with_type, body_types, number_of}
-use Rattle.al_tree.specs.Reading.{Parser, ◌>>=◌, ◌>>◌, pure, refuse, same_kind, looks, peek, here, take_if, expect}
+use Rattle.al_tree.specs.Reading.{Outcome, Parser, ◌>>=◌, ◌>>◌, pure, refuse, same_kind, looks, peek, here, take_if, expect}
+use Rattle.al_tree.specs.declared.cursor.ParseError.{ParseError}
+use Rattle.al_tree.specs.declared.cursor.ParseError.TheVariants.{Stuck, Deep}
 use Rattle.al_tree.specs.declared.expression.Name.{Name}
 use Rattle.al_tree.specs.declared.item.Scope.{Scope}
 use Rattle.al_tree.specs.declared.item.AggregateKind.{AggregateKind}
@@ -26,7 +28,8 @@ use Rattle.al_parse_block.specs.Parse.{block_within}
 use Rattle.al_parse_member.specs.Parameters.{Parameters, parameter_list}
 use Rattle.al_parse_member.specs.Members.{enum_body, members_within, adt_body}
 use Rattle.al_parse_stmt.specs.Heads.{SizedDeclarator, new_names_from, declarator_after, declarators_from}
-use Rattle.al_parse_stmt.specs.Begun.{Begun, begun}
+use Rattle.al_parse_stmt.specs.Ahead.{owner_of}
+use Rattle.al_parse_stmt.specs.Begun.{Begun, fault_at, begun_as, deeper_as, up_to, least, any_alive}
 
 -- an item, what is declared behind it, and its height
 pub record ReadItem : Type 0 where
@@ -180,15 +183,45 @@ module _ (leaves : Leaves) (turns depth : ℕ) (d : Declared) where
     if same_kind next k.LeftBrace then (if nat_lt 0 depth then with_body at scope b h head else (take_if false >> refuse)) else declared_more at scope b (dec.Function head, h)
   behind_first at scope b (dec.Global x y) h = declared_more at scope b (dec.Global x y, h)
 
-  -- what follows what it begins with
+  -- behind the base type and the name of the first declarator
   unfoldable pub behind_begun : Place → Option Scope → Begun → Parser ReadItem
   behind_begun at scope y = do
     x ← declarator_after leaves turns depth d y.1
     behind_first at scope y.0 x.0 x.1
 
-  -- behind the word before it or none
+  -- the fault at a token behind the name, by what is read of it there
+  abbrev pub fault_behind : ℕ → Outcome ReadItem → ParseError
+  fault_behind left (Err (Stuck (suc n))) = Stuck left
+  fault_behind left o = Deep (left - 1)
+
+  -- by the tokens from that one on to the end of the first ones of all
+  abbrev pub decided_at : Place → Option Scope → (all first : List Token) → Begun → List Token → Option ParseError
+  decided_at at scope all first y [] = None
+  decided_at at scope all first y (t ∷ rest) = Some (fault_behind (length all - (length first - length (t ∷ rest))) (behind_begun at scope y (t ∷ [])))
+
+  abbrev pub decided_by : Place → Option Scope → (all first : List Token) → Outcome Begun → Option ParseError
+  decided_by at scope all first (Ok x) = decided_at at scope all first x.0 x.1
+  decided_by at scope all first (Err e) = None
+
+  -- the fault of the way that the brackets tell, where it goes too deep before the token that leaves so many and is read with more levels
+  abbrev pub decided : Place → Option Scope → (all first : List Token) → ℕ → ParseError → Outcome Begun → Option ParseError
+  decided at scope all first left (Deep m) deeper = if m + 1 == left then None else decided_by at scope all first deeper
+  decided at scope all first left e deeper = None
+
+  abbrev pub or_at : ℕ → Bool → Option ParseError → ParseError
+  or_at left alive (Some e) = e
+  or_at left alive None = fault_at left alive
+
+  unfoldable pub fault_with : Place → Option Scope → List Token → Option ℕ → ParseError → ℕ → ParseError
+  fault_with at scope ts owner e left = or_at left (any_alive leaves turns depth d ts left) (decided at scope ts (up_to left ts) left e (deeper_as leaves turns d owner (up_to left ts)))
+
+  abbrev pub declared_by : Place → Option Scope → List Token → Option ℕ → Outcome Begun → Outcome ReadItem
+  declared_by at scope ts owner (Ok x) = behind_begun at scope x.0 x.1
+  declared_by at scope ts owner (Err e) = Err (fault_with at scope ts owner e (least leaves turns depth d ts e))
+
+  -- behind the word before it or none, in the way that the brackets tell
   unfoldable pub declared : Place → Option Scope → Parser ReadItem
-  declared at scope = begun leaves turns depth d >>= behind_begun at scope
+  declared at scope ts = declared_by at scope ts (owner_of d turns ts) (begun_as leaves turns depth d (owner_of d turns ts) ts)
 
   unfoldable pub scoped : Scope → Parser ReadItem
   scoped word = do

@@ -16,7 +16,7 @@ use crate::heads::{
     FirstName, named_after, named_declarator, new_names_from, only_name, owned_head,
     parametrised_head,
 };
-use crate::known::{Known, add_parameters, declare, nothing_known, parameters_of};
+use crate::known::{Known, add_parameters, declare, nothing_known, owner_of, parameters_of};
 use crate::reader::Reader;
 use al_base::{NoMemory, Place};
 use al_items::Items;
@@ -673,10 +673,10 @@ impl Reader {
     ) -> Result<(Item, u32), ParseError>
         requires turns { self.now.turns < 2 ^ 32 }
         requires depth { self.now.depth < 999 }
-        requires base { b.height ≤ self.now.depth }
+        requires base { b.height + 1 < 2 ^ 32 }
         requires height { x.1 ≤ self.now.depth }
         ensures reads { ReadsItem (spec.declared_more (leaves_of text.now) self.now.turns self.now.depth (declared_of known.old) at scope b x tokens.old) result known.new tokens.new }
-        ensures low { IfOk result (λ y. y.1 ≤ self.now.depth + 1) }
+        ensures low { b.height ≤ self.now.depth → IfOk result (λ y. y.1 ≤ self.now.depth + 1) }
     {
         let found = only(self.alloc, x.0)?;
         let (declarators, high) = self.declarators_from(text, found, x.1, known, tokens)?;
@@ -739,10 +739,10 @@ impl Reader {
         requires turns { self.now.turns < 2 ^ 32 }
         requires depth { self.now.depth < 999 }
         requires some { 0 < self.now.depth }
-        requires base { b.height ≤ self.now.depth }
+        requires base { b.height + 1 < 2 ^ 32 }
         requires height { h ≤ self.now.depth }
         ensures reads { ReadsItem (spec.with_body (leaves_of text.now) self.now.turns self.now.depth (declared_of known.old) at scope b h head tokens.old) result known.new tokens.new }
-        ensures low { IfOk result (λ y. y.1 ≤ self.now.depth + 1) }
+        ensures low { b.height ≤ self.now.depth → IfOk result (λ y. y.1 ≤ self.now.depth + 1) }
     {
         let (body, high) = self.body(text, &head.owner, known, tokens)?;
         let height = b.height.max(h.max(high)) + 1;
@@ -770,10 +770,10 @@ impl Reader {
         requires turns { self.now.turns < 2 ^ 32 }
         requires depth { self.now.depth < 999 }
         requires some { 0 < self.now.depth }
-        requires base { b.height ≤ self.now.depth }
+        requires base { b.height + 1 < 2 ^ 32 }
         requires height { x.1 ≤ self.now.depth }
         ensures reads { ReadsItem (spec.behind_first (leaves_of text.now) self.now.turns self.now.depth (declared_of known.old) at scope b x.0 x.1 tokens.old) result known.new tokens.new }
-        ensures low { IfOk result (λ y. y.1 ≤ self.now.depth + 1) }
+        ensures low { b.height ≤ self.now.depth → IfOk result (λ y. y.1 ≤ self.now.depth + 1) }
     {
         let (first, h) = x;
         match first {
@@ -806,7 +806,7 @@ impl Reader {
 
     /// What follows what a declaration begins with.
     #[tactic(auto, unfolding(crate::specs::Parse::behind_begun))]
-    fn behind_begun(
+    pub(crate) fn behind_begun(
         &self,
         text: &[u8],
         at: Place,
@@ -818,9 +818,9 @@ impl Reader {
         requires turns { self.now.turns < 2 ^ 32 }
         requires depth { self.now.depth < 999 }
         requires some { 0 < self.now.depth }
-        requires base { begun.0.height ≤ self.now.depth }
+        requires base { begun.0.height + 1 < 2 ^ 32 }
         ensures reads { ReadsItem (spec.behind_begun (leaves_of text.now) self.now.turns self.now.depth (declared_of known.old) at scope begun tokens.old) result known.new tokens.new }
-        ensures low { IfOk result (λ y. y.1 ≤ self.now.depth + 1) }
+        ensures low { begun.0.height ≤ self.now.depth → IfOk result (λ y. y.1 ≤ self.now.depth + 1) }
     {
         let (b, y) = begun;
         let x = self.declarator_after(text, y, known, tokens)?;
@@ -842,8 +842,13 @@ impl Reader {
         ensures reads { ReadsItem (spec.declared (leaves_of text.now) self.now.turns self.now.depth (declared_of known.old) at scope tokens.old) result known.new tokens.new }
         ensures low { IfOk result (λ y. y.1 ≤ self.now.depth + 1) }
     {
-        let begun = self.begun(text, known, tokens)?;
-        self.behind_begun(text, at, scope, begun, known, tokens)
+        let owner = owner_of(self.alloc, known, self.turns, tokens)?;
+        let start = tokens.fork();
+        match self.begun_as(text, owner, known, tokens) {
+            Ok(begun) => self.behind_begun(text, at, scope, begun, known, tokens),
+            Err(ParseError::NoMemory) => Err(ParseError::NoMemory),
+            Err(error) => Err(self.fault_of(text, at, scope, owner, error, known, &start)?),
+        }
     }
 
     #[tactic(auto, unfolding(crate::specs::Parse::scoped, crate::specs::Parse::unscoped))]

@@ -5,6 +5,7 @@ mod adts;
 mod ahead;
 mod begun;
 mod calls;
+mod fault;
 mod heads;
 mod items;
 mod known;

@@ -1,5 +1,5 @@
 //! Where items are parsed, and the parts of other crates that they begin with.
-ghost use Rattle.std.specs.Prelude.{◌≡◌, ◌<◌, ◌≤◌, ◌^◌, IfOk};
+ghost use Rattle.std.specs.Prelude.{◌≡◌, ◌+◌, ◌<◌, ◌≤◌, ◌^◌, IfOk};
 ghost use Rattle.al_tree.specs.Leaves.{leaves_of};
 ghost use Rattle.al_tree.specs.Reading.{Reads};
 ghost use Rattle.al_parse_type.specs.Within as type_spec;
@@ -45,7 +45,7 @@ impl Reader {
         types: &TypeNames,
         tokens: &mut Cursor<'_>,
     ) -> Result<ReadBase, ParseError>
-        requires depth { self.now.depth < 999 }
+        requires depth { self.now.depth + 1 < 2 ^ 32 }
         ensures reads { Reads (type_spec.base_within (leaves_of text.now) types.now self.now.turns self.now.depth tokens.old) result tokens.new }
         ensures low { IfOk result (λ y. y.height ≤ self.now.depth) }
     {

@@ -7,3 +7,4 @@ pub mod TypeComplete
 pub mod TypeWhole
 pub mod BaseWhole
 pub mod Parts
+pub mod NeverDeep
