@@ -20,5 +20,6 @@ pub mod ItemComplete
 pub mod TextIs
 pub mod Furthest
 pub mod FirstTokens
+pub mod NextToken
 pub mod DeclaredFault
 pub mod DeclaredJudge
