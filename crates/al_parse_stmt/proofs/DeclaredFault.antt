@@ -489,7 +489,7 @@ module _ (leaves : Leaves) (d : Declared) (at : Place) (scope : Option Scope) (s
           by w' ab more (inl e) = err_of w'.turns w'.depth (used ++ t ∷ more) (subst (λ o. IsErr (way o w'.turns w'.depth (used ++ t ∷ more))) (sym (main_ahead w'.turns ab.turns more)) (subst (λ l. IsErr (way main w'.turns w'.depth l)) (sym (joined more)) e))
           by w' ab more (inr e) = subst IsErr (sym (ok_of w'.turns w'.depth (used ++ t ∷ more) main y (t ∷ more) (main_ahead w'.turns ab.turns more) (ap (way main w'.turns w'.depth) (joined more) ∙ e))) (none w' ab more)
 
-      named : (o : Outcome ReadItem) → Verdict w (λ w. rest w.turns w.depth y) Behind (t ∷ []) o → Judged w p Q ts (Err (parse.fault_behind leaves F n d (suc (length behind)) o))
+      named : (o : Outcome ReadItem) → Verdict w (λ w. rest w.turns w.depth y) Behind (t ∷ []) o → Judged w p Q ts (Err (parse.fault_behind (suc (length behind)) (parse.refuses o)))
       named (Ok x) v = of (one_token t v.used x.1 v.cut)
         where
           of : ((v.used ≡ []) × (x.1 ≡ t ∷ [])) ⊎ ((v.used ≡ t ∷ []) × (x.1 ≡ [])) → TooDeepAt w p Q ts (suc (length behind) - 1)
@@ -516,7 +516,7 @@ module _ (leaves : Leaves) (d : Declared) (at : Place) (scope : Option Scope) (s
           of (inr e) = absurd (omega (arith, ap length e.1))
 
     decided : (left m : ℕ) (y : Begun) (t : Token) (l : List Token) → way main F n ts ≡ Err (Deep m) → way main F high (up_to left ts) ≡ Ok (y, t ∷ l)
-        → Judged w p Q ts (Err (parse.fault_behind leaves F n d (length ts - (length (up_to left ts) - length (t ∷ l))) (rest F n y (t ∷ []))))
+        → Judged w p Q ts (Err (parse.fault_behind (length ts - (length (up_to left ts) - length (t ∷ l))) (parse.refuses (rest F n y (t ∷ [])))))
     decided left m y t l deep h =
         let i = length ts - (left - 1) in
         let whole_cut : up_to left ts ++ drop i ts ≡ ts = take-append-drop i ts in
@@ -524,7 +524,7 @@ module _ (leaves : Leaves) (d : Declared) (at : Place) (scope : Option Scope) (s
         let cut : ts ≡ q.used ++ t ∷ (l ++ drop i ts) = sym whole_cut ∙ ap (λ z. z ++ drop i ts) q.cut ∙ append_assoc q.used (t ∷ l) (drop i ts) in
         let count : suc (length (l ++ drop i ts)) ≡ length ts - (length (up_to left ts) - length (t ∷ l)) =
         omega (arith, ap length cut, ap length q.cut, length-append q.used (t ∷ l), length-append q.used (t ∷ (l ++ drop i ts))) in
-        subst (λ c. Judged w p Q ts (Err (parse.fault_behind leaves F n d c (rest F n y (t ∷ []))))) count
+        subst (λ c. Judged w p Q ts (Err (parse.fault_behind c (parse.refuses (rest F n y (t ∷ [])))))) count
         (named q.used (l ++ drop i ts) t y m cut q.is (q.again (world F high) (above_self (world F high)) (t ∷ []) refl) deep (rest F n y (t ∷ [])) (verdict q.used (l ++ drop i ts) t y m cut q.is (q.again (world F high) (above_self (world F high)) (t ∷ []) refl) deep))
 
     -- ---- all together

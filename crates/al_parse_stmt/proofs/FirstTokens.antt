@@ -1,7 +1,8 @@
 -- The first tokens of a list, taken one by one.
-use Rattle.std.proofs.Common.{◌≡◌, ℕ, zero, suc, ◌+◌, ◌-◌, ◌<◌, ◌≤◌, true, List, [], ◌∷◌, ◌++◌, take, Ok, Err, refl, sym, ap, ◌∙◌, arith, append_assoc, append-nil}
+use Rattle.std.proofs.Common.{◌≡◌, ◌≢◌, ℕ, zero, suc, ◌+◌, ◌-◌, ◌<◌, ◌≤◌, true, List, [], ◌∷◌, ◌++◌, take, Ok, Err, refl, sym, ap, ◌∙◌, arith, append_assoc, append-nil}
 use Rattle.al_lex.specs.declared.token.Token.{Token}
 use Rattle.al_tree.specs.declared.cursor.ParseError.{ParseError}
+use Rattle.al_tree.specs.declared.cursor.ParseError.TheVariants.{NoMemory, Stuck, Deep}
 use Rattle.al_tree.specs.Reading.{Outcome, take_if}
 
 pub one_first : (count i : ℕ) (tokens all rest : List Token) (t : Token) (r : List Token) → take count tokens ≡ all ++ take (count - i) rest → take_if true rest ≡ Ok (t, r) → i < count → take count tokens ≡ (all ++ t ∷ []) ++ take (count - (i + 1)) r
@@ -22,5 +23,8 @@ unfolding take_if
 no_more_first count i tokens all [] e h q = sym (h ∙ ap (λ l. all ++ l) (take_nothing (count - i)) ∙ append-nil all)
 no_more_first count i tokens all (s ∷ rest) e h q = absurd (let z : ⊥ = cc in z)
 
-pub all_first_taken : (count i : ℕ) (tokens all rest : List Token) → take count tokens ≡ all ++ take (count - i) rest → count ≤ i → all ≡ take count tokens
-all_first_taken count i tokens all rest h less = sym (h ∙ ap (λ n. all ++ take n rest) (let q : count - i ≡ 0 = omega (arith, less) in q) ∙ append-nil all)
+pub stuck_first : (count i n : ℕ) (tokens all rest : List Token) → take count tokens ≡ all ++ take (count - i) rest → (Stuck n ≢ NoMemory → take_if true rest ≡ Err (Stuck n)) → all ≡ take count tokens
+stuck_first count i n tokens all rest h q = no_more_first count i tokens all rest (Stuck n) h (q (λ e. absurd (let z : ⊥ = cc in z)))
+
+pub deep_first : (count i n : ℕ) (tokens all rest : List Token) → take count tokens ≡ all ++ take (count - i) rest → (Deep n ≢ NoMemory → take_if true rest ≡ Err (Deep n)) → all ≡ take count tokens
+deep_first count i n tokens all rest h q = no_more_first count i tokens all rest (Deep n) h (q (λ e. absurd (let z : ⊥ = cc in z)))

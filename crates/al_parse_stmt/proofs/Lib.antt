@@ -2,6 +2,7 @@ pub mod NamesAre
 pub mod KeptNames
 pub mod LastFirst
 pub mod FirstTokens
+pub mod NextToken
 pub mod Outcomes
 pub mod Judge
 pub mod Balanced

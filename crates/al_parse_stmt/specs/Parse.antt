@@ -50,6 +50,16 @@ at_end (t ∷ ts) = false
 abbrev pub built : Declared → ℕ → Item → ReadItem
 built after h x = record { item = x; after = after; height = h + 1 }
 
+-- whether one token that there is is refused
+abbrev pub refuses : Outcome ReadItem → Bool
+refuses (Err (Stuck (suc n))) = true
+refuses o = false
+
+-- the fault at a token behind the name of a declaration, which is refused there or goes too deep
+abbrev pub fault_behind : ℕ → Bool → ParseError
+fault_behind left true = Stuck left
+fault_behind left false = Deep (left - 1)
+
 -- NAME ("," NAME)* "]", behind the bracket
 unfoldable pub new_names : ℕ → List ℕ → Parser (List Name)
 new_names turns types = do
@@ -189,15 +199,10 @@ module _ (leaves : Leaves) (turns depth : ℕ) (d : Declared) where
     x ← declarator_after leaves turns depth d y.1
     behind_first at scope y.0 x.0 x.1
 
-  -- the fault at a token behind the name, by what is read of it there
-  abbrev pub fault_behind : ℕ → Outcome ReadItem → ParseError
-  fault_behind left (Err (Stuck (suc n))) = Stuck left
-  fault_behind left o = Deep (left - 1)
-
   -- by the tokens from that one on to the end of the first ones of all
   abbrev pub decided_at : Place → Option Scope → (all first : List Token) → Begun → List Token → Option ParseError
   decided_at at scope all first y [] = None
-  decided_at at scope all first y (t ∷ rest) = Some (fault_behind (length all - (length first - length (t ∷ rest))) (behind_begun at scope y (t ∷ [])))
+  decided_at at scope all first y (t ∷ rest) = Some (fault_behind (length all - (length first - length (t ∷ rest))) (refuses (behind_begun at scope y (t ∷ []))))
 
   abbrev pub decided_by : Place → Option Scope → (all first : List Token) → Outcome Begun → Option ParseError
   decided_by at scope all first (Ok x) = decided_at at scope all first x.0 x.1

@@ -88,6 +88,17 @@ fn fault_at(left: usize, alive: bool) -> ParseError
     }
 }
 
+/// The fault at a token that leaves so many, behind the name of a declaration: it is refused there or goes too deep.
+fn fault_behind(left: usize, refused: bool) -> ParseError
+    ensures { result ≡ parse.fault_behind left refused }
+{
+    if refused {
+        ParseError::Stuck(left)
+    } else {
+        ParseError::Deep(left.saturating_sub(1))
+    }
+}
+
 /// A list with one token.
 fn only(alloc: Global, t: Token) -> Result<Items<Token>, NoMemory>
     ensures { IfOk result (λ all. all ≡ t ∷ []) }
@@ -280,7 +291,34 @@ impl Reader {
         self.some_alive(text, left, names, known, tokens, first)
     }
 
+    /// Whether the token is refused behind a name that was read with more levels.
+    fn refuses(
+        &self,
+        text: &[u8],
+        at: Place,
+        scope: Option<Scope>,
+        begun: (ReadBase, FirstName),
+        known: &mut Known,
+        token: Token,
+    ) -> Result<bool, NoMemory>
+        requires turns { self.now.turns < 2 ^ 32 }
+        requires depth { self.now.depth < 999 }
+        requires some { 0 < self.now.depth }
+        requires base { begun.0.height + 1 < 2 ^ 32 }
+        ensures { IfOk result (λ yes. yes ≡ parse.refuses (parse.behind_begun (leaves_of text.now) self.now.turns self.now.depth (declared_of known.old) at scope begun (token ∷ []))) }
+    {
+        let one = only(self.alloc, token)?;
+        let mut next = Cursor::new(one.as_slice());
+        match self.behind_begun(text, at, scope, begun, known, &mut next) {
+            Ok(_) => Ok(false),
+            Err(ParseError::NoMemory) => Err(NoMemory),
+            Err(ParseError::Stuck(n)) => Ok(n != 0),
+            Err(ParseError::Deep(_)) => Ok(false),
+        }
+    }
+
     /// The fault at the next token, which stands behind a name that was read with more levels. It is one of the first ones of all.
+    #[tactic(auto, using(crate::proofs::NextToken::some_next, crate::proofs::NextToken::no_next))]
     fn decided_at(
         &self,
         text: &[u8],
@@ -302,22 +340,12 @@ impl Reader {
         let mut rest = tokens.fork();
         match rest.take_if(true) {
             Ok(t) => {
-                let one = only(self.alloc, t)?;
-                let mut next = Cursor::new(one.as_slice());
-                match self.behind_begun(text, at, scope, begun, known, &mut next) {
-                    Err(ParseError::NoMemory) => Err(NoMemory),
-                    Err(ParseError::Stuck(n)) => {
-                        if n == 0 {
-                            Ok(Some(ParseError::Deep(left.saturating_sub(1))))
-                        } else {
-                            Ok(Some(ParseError::Stuck(left)))
-                        }
-                    }
-                    _ => Ok(Some(ParseError::Deep(left.saturating_sub(1)))),
-                }
+                let refused = self.refuses(text, at, scope, begun, known, t)?;
+                Ok(Some(fault_behind(left, refused)))
             }
             Err(ParseError::NoMemory) => Err(NoMemory),
-            Err(_) => Ok(None),
+            Err(ParseError::Stuck(_)) => Ok(None),
+            Err(ParseError::Deep(_)) => Ok(None),
         }
     }
 
