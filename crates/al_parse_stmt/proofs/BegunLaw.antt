@@ -1,7 +1,6 @@
 -- What a declaration begins with keeps the law, in each way to read it.
-use Rattle.std.proofs.Common.{◌≡◌, ℕ, ◌+◌, ◌≤◌, ◌<◌, ◌==◌, Bool, true, false, if◌then◌else◌, List, [], ◌∷◌, ◌++◌, length, Option, Some, None, Ok, Err, refl, sym, ap, ◌∙◌, subst, arith, append_assoc, append-nil, length-append}
+use Rattle.std.proofs.Common.{◌≡◌, ℕ, ◌+◌, ◌≤◌, ◌<◌, Bool, true, false, if◌then◌else◌, List, [], ◌∷◌, ◌++◌, length, Option, Some, None, Ok, Err, refl, sym, ap, ◌∙◌, subst, arith, append_assoc, length-append}
 use Rattle.al_base.specs.declared.place.Place.{Place}
-use Rattle.al_lex.specs.declared.kind.TokenKind.{TokenKind}
 use Rattle.al_lex.specs.declared.kind.TokenKind.TheVariants as k
 use Rattle.al_lex.specs.declared.token.Token.{Token}
 use Rattle.al_tree.specs.Words.{start}
@@ -12,10 +11,9 @@ use Rattle.al_tree.specs.Reading.{Outcome, ◌>>=◌, pure, refuse, kind, name_n
 use Rattle.al_tree.specs.declared.cursor.ParseError.{ParseError}
 use Rattle.al_tree.proofs.Verdicts.{world}
 use Rattle.al_tree.proofs.Law.{World, Verdict, Lang, Any, head, Has, Law, bind, map_law, pure_law, refuse_law, choose, look, kind_local, start_local, located, take_law, all_turns, relang}
-use Rattle.al_parse_type.specs.declared.part.ReadBase.{ReadBase}
 use Rattle.al_parse_type.specs.Parse.{sees_type_name, other_name, stars_from}
 use Rattle.al_parse_type.specs.Within.{base_within}
-use Rattle.al_parse_type.proofs.BoundLaw.{always, at_nil, other_law, stars_law, fresh_token, fresh_is, fresh_place}
+use Rattle.al_parse_type.proofs.BoundLaw.{always, other_law, stars_law, fresh_token, fresh_is, fresh_place}
 use Rattle.al_parse_type.proofs.TypeLaw.{LBase, type_name_local, type_name_is}
 use Rattle.al_parse_type.proofs.BaseWhole.{base_within_law}
 use Rattle.al_parse_stmt.specs.declared.heads.FirstName.{FirstName}

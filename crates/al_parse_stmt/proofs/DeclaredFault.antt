@@ -8,15 +8,14 @@ use Rattle.al_lex.specs.declared.token.Token.{Token}
 use Rattle.al_tree.specs.Words.{start}
 use Rattle.al_tree.specs.Types.{Leaves, type_name as is_type, other_name as is_other}
 use Rattle.al_tree.specs.Items.{Declared, IsScope}
-use Rattle.al_tree.specs.Reading.{Outcome, Parser, kind}
+use Rattle.al_tree.specs.Reading.{Outcome, Parser}
 use Rattle.al_tree.specs.declared.cursor.ParseError.{ParseError}
 use Rattle.al_tree.specs.declared.cursor.ParseError.TheVariants.{NoMemory, Stuck, Deep}
 use Rattle.al_tree.specs.declared.item.Scope.{Scope}
-use Rattle.al_tree.proofs.Law.{World, Above, Family, Lang, Any, head, Has, Law, Verdict, ReadAt, StuckAt, DeepAt, above_self}
+use Rattle.al_tree.proofs.Law.{World, Above, Family, Lang, head, Has, Law, Verdict, ReadAt, above_self}
 use Rattle.al_tree.proofs.Verdicts.{world}
 use Rattle.al_parse_stmt.proofs.Outcomes.{IsErr, same_head}
-use Rattle.al_parse_stmt.specs.declared.heads.FirstName.{FirstName}
-use Rattle.al_parse_stmt.specs.Ahead.{owner_ahead, owner_by, owner_of}
+use Rattle.al_parse_stmt.specs.Ahead.{owner_ahead, owner_of}
 use Rattle.al_parse_stmt.specs.Begun.{Begun, owners, left_with, nearer, up_to, can_go_on, alive_by, some_alive, fault_at, begun_as, deeper_as, least, alive, any_alive}
 use Rattle.al_parse_stmt.specs.Parse as parse
 use Rattle.al_parse_stmt.specs.Parse.{ReadItem}
@@ -28,7 +27,7 @@ use Rattle.al_parse_stmt.proofs.BegunLaw.{as_law, as_agrees, found_on}
 use Rattle.al_parse_stmt.proofs.NeverDeep.{never_deep}
 use Rattle.al_parse_stmt.proofs.Ways as ways
 use Rattle.al_parse_stmt.proofs.Ways.{Way, NotDeep, is_err}
-use Rattle.al_parse_stmt.proofs.Furthest.{Each, each_of, both_each, way_ahead, Leaves as Leave, Least, least_leaves, Leaving, least_is, none_alive, Alive, one_alive}
+use Rattle.al_parse_stmt.proofs.Furthest.{Each, each_of, both_each, way_ahead, Leaves as Leave, Least, least_leaves, Leaving, least_is, none_alive, one_alive}
 use Rattle.al_parse_stmt.proofs.ItemEnds.{no_name_last}
 use Rattle.al_parse_stmt.proofs.ItemLaw.{LItem}
 
@@ -81,9 +80,9 @@ up_to_all ts = ap (λ l. take (length ts - (0 - 1)) l) (sym (append-nil ts)) ∙
 
 module _ (leaves : Leaves) (d : Declared) (at : Place) (scope : Option Scope) (s : List Token) (word : IsScope leaves d.types s scope) (fits : Each (OwnerFits d) (owners d.adts))
     (rest_law : (owner : Option ℕ) → OwnerFits d owner → (R : Type 0) (w : World) → (R → w.fuel ≤ w.turns) → (s : List Token) (scope : Option Scope) → IsScope leaves d.types s scope → (u : List Token) (x : Begun) (at : Place) → IsBegun leaves d owner u x → start (s ++ u) ≡ at
-      → Law R w (Agrees d owner x) (λ w. parse.behind_begun leaves w.turns w.depth d at scope x) (λ v y. LItem leaves d (s ++ (u ++ v)) y))
+    → Law R w (Agrees d owner x) (λ w. parse.behind_begun leaves w.turns w.depth d at scope x) (λ v y. LItem leaves d (s ++ (u ++ v)) y))
     (rest_has : (owner : Option ℕ) → OwnerFits d owner → (s : List Token) (scope : Option Scope) → IsScope leaves d.types s scope → (u : List Token) (x : Begun) (at : Place) → IsBegun leaves d owner u x → start (s ++ u) ≡ at
-      → Has (λ v y. LItem leaves d (s ++ (u ++ v)) y)) where
+    → Has (λ v y. LItem leaves d (s ++ (u ++ v)) y)) where
   abbrev Q : Lang ReadItem
   Q v x = LItem leaves d (s ++ v) x
 

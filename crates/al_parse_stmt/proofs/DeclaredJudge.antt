@@ -1,5 +1,5 @@
 -- What is said of the fault of a declaration.
-use Rattle.std.proofs.Common.{◌≡◌, ℕ, ◌≤◌, List, ◌++◌, Option, Some}
+use Rattle.std.proofs.Common.{◌≡◌, ◌≤◌, List, ◌++◌, Option, Some}
 use Rattle.std.specs.List.{All}
 use Rattle.al_base.specs.declared.place.Place.{Place}
 use Rattle.al_lex.specs.declared.token.Token.{Token}

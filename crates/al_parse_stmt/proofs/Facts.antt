@@ -1,15 +1,9 @@
 -- Lists of tokens at one of their tokens.
-use Rattle.std.proofs.Common.{◌≡◌, ℕ, zero, suc, ◌<◌, Bool, true, false, if◌then◌else◌, List, [], ◌∷◌, ◌++◌, length, Ok, Err, refl, sym, ap, ◌∙◌, subst, arith, append_assoc, append-nil, length-append}
+use Rattle.std.proofs.Common.{◌≡◌, ℕ, zero, suc, ◌<◌, List, [], ◌∷◌, ◌++◌, length, Ok, Err, refl, ap, ◌∙◌, arith, append-nil, length-append}
 use Rattle.al_lex.specs.declared.token.Token.{Token}
 use Rattle.al_tree.specs.Words.{start}
-use Rattle.al_tree.specs.Types.{Leaves, IsTypeName, IsOtherName}
-use Rattle.al_tree.specs.Reading.{Outcome, Parser, and_then, ◌>>=◌, refuse, take_if}
+use Rattle.al_tree.specs.Reading.{Outcome}
 use Rattle.al_tree.specs.declared.cursor.ParseError.{ParseError}
-use Rattle.al_tree.proofs.Law.{Lang, Any}
-use Rattle.al_parse_type.specs.Parse.{sees_type_name, sees_other_name, other_name}
-use Rattle.al_parse_type.proofs.BoundLaw.{other_is}
-use Rattle.al_parse_type.proofs.TypeLaw.{type_name_is}
-use Rattle.al_parse_member.specs.Parameters.{type_name}
 use Rattle.al_parse_stmt.proofs.Outcomes.{behind}
 
 pub never_ok : {A : Type 0} (e : ParseError) (x : A × List Token) → ◌≡◌ {A = Outcome A} (Err e) (Ok x) → ⊥

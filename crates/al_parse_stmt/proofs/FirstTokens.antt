@@ -1,9 +1,9 @@
 -- The first tokens of a list, taken one by one.
-use Rattle.std.proofs.Common.{◌≡◌, ◌≢◌, ℕ, zero, suc, ◌+◌, ◌-◌, ◌<◌, ◌≤◌, true, List, [], ◌∷◌, ◌++◌, take, Ok, Err, refl, sym, ap, ◌∙◌, arith, append_assoc, append-nil}
+use Rattle.std.proofs.Common.{◌≡◌, ◌≢◌, ℕ, zero, suc, ◌+◌, ◌-◌, ◌<◌, true, List, [], ◌∷◌, ◌++◌, take, Ok, Err, refl, sym, ap, ◌∙◌, arith, append_assoc, append-nil}
 use Rattle.al_lex.specs.declared.token.Token.{Token}
 use Rattle.al_tree.specs.declared.cursor.ParseError.{ParseError}
 use Rattle.al_tree.specs.declared.cursor.ParseError.TheVariants.{NoMemory, Stuck, Deep}
-use Rattle.al_tree.specs.Reading.{Outcome, take_if}
+use Rattle.al_tree.specs.Reading.{take_if}
 
 pub one_first : (count i : ℕ) (tokens all rest : List Token) (t : Token) (r : List Token) → take count tokens ≡ all ++ take (count - i) rest → take_if true rest ≡ Ok (t, r) → i < count → take count tokens ≡ (all ++ t ∷ []) ++ take (count - (i + 1)) r
 unfolding take_if

@@ -7,9 +7,8 @@ use Rattle.al_tree.specs.Words.{start, scope_word}
 use Rattle.al_tree.specs.Types.{Leaves}
 use Rattle.al_tree.specs.Items.{Declared}
 use Rattle.al_tree.specs.Items as items
-use Rattle.al_tree.specs.Reading.{◌>>=◌, kind}
+use Rattle.al_tree.specs.Reading.{kind}
 use Rattle.al_tree.specs.declared.item.Scope.{Scope}
-use Rattle.al_tree.specs.declared.item.AggregateKind.TheVariants as ag
 use Rattle.al_tree.proofs.Law.{World, Any, Has, kind_local, start_local}
 use Rattle.al_parse_type.proofs.BoundLaw.{first_kind}
 use Rattle.al_parse_stmt.specs.Parse as parse

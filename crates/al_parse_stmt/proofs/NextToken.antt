@@ -1,12 +1,11 @@
 -- The token behind a name that decides how a declaration is read.
-use Rattle.std.proofs.Common.{◌≡◌, ◌≢◌, ℕ, ◌-◌, Bool, true, List, [], ◌∷◌, length, Option, Some, None, Ok, Err, refl, sym, ap, ◌∙◌}
+use Rattle.std.proofs.Common.{◌≡◌, ℕ, ◌-◌, Bool, true, List, [], ◌∷◌, length, Option, Some, None, Ok, Err, refl, sym, ap, ◌∙◌}
 use Rattle.al_base.specs.declared.place.Place.{Place}
 use Rattle.al_lex.specs.declared.token.Token.{Token}
 use Rattle.al_tree.specs.Types.{Leaves}
 use Rattle.al_tree.specs.Items.{Declared}
-use Rattle.al_tree.specs.Reading.{Outcome, take_if}
+use Rattle.al_tree.specs.Reading.{take_if}
 use Rattle.al_tree.specs.declared.cursor.ParseError.{ParseError}
-use Rattle.al_tree.specs.declared.cursor.ParseError.TheVariants.{NoMemory}
 use Rattle.al_tree.specs.declared.item.Scope.{Scope}
 use Rattle.al_parse_stmt.specs.Begun.{Begun}
 use Rattle.al_parse_stmt.specs.Parse as parse

@@ -1,5 +1,5 @@
 -- Lists of tokens at their fronts, and outcomes that are faults.
-use Rattle.std.proofs.Common.{◌≡◌, ℕ, ◌≤◌, List, [], ◌∷◌, ◌++◌, length, Ok, Err, refl, ap, ◌∙◌, arith, length-append}
+use Rattle.std.proofs.Common.{◌≡◌, ◌≤◌, List, [], ◌∷◌, ◌++◌, length, Ok, Err, refl, ap, ◌∙◌, arith, length-append}
 use Rattle.al_lex.specs.declared.token.Token.{Token}
 use Rattle.al_tree.specs.Reading.{Outcome, Parser, and_then}
 use Rattle.al_tree.proofs.Law.{head}

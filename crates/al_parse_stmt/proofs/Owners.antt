@@ -5,14 +5,10 @@ use Rattle.al_lex.specs.declared.token.Token.{Token}
 use Rattle.al_tree.specs.Words.{start}
 use Rattle.al_tree.specs.Types.{Leaves, known, IsTypeName, type_name as is_type}
 use Rattle.al_tree.specs.Items.{Declared, parameters_of}
-use Rattle.al_tree.specs.Items as items
 use Rattle.al_tree.specs.Reading.{Outcome, Parser, ◌>>=◌, ◌>>◌, pure, refuse, kind, name_number, same_kind, peek, take_if}
-use Rattle.al_tree.specs.declared.expression.Name.{Name}
-use Rattle.al_tree.specs.declared.item.Declarator.TheVariants as dec
 use Rattle.al_parse_type.specs.Parse.{sees_type_name, stars_from}
 use Rattle.al_parse_member.specs.Parameters.{type_name}
 use Rattle.al_parse_stmt.specs.Ahead.{some_parameters, owner_by, inside_of}
-use Rattle.al_parse_stmt.specs.Heads as parse
 
 -- where a list begins does not depend on what stands behind its first token
 pub same_start : (v : List Token) (t : Token) (r : List Token) → start (v ++ t ∷ r) ≡ start (v ++ t ∷ [])

@@ -101,13 +101,16 @@ module _ (toks : TokenList) (list : List Token) (tokens : TokensFrom toks 0 list
   told F short (Stuck zero) v f g =
       let n : count toks - 0 ≡ length tokens.front = omega (arith, size, ap length all) in
       let same = same_fault reason.EndOfText (length tokens.front) f (ap (fault_at toks reason.EndOfText) (sym n) ∙ g) in
-      subst (IsParseFault toks) same (at_end (refl, record {
-        more = v.goes_on.word;
-        tree = tree_of (list ++ v.goes_on.word) v.goes_on.value v.goes_on.is;
-        height = v.goes_on.value.1;
-        is = subst (λ l. IsTreeOf toks.text (l ++ v.goes_on.word) (tree_of (list ++ v.goes_on.word) v.goes_on.value v.goes_on.is) v.goes_on.value.1) all (is_tree (list ++ v.goes_on.word) v.goes_on.value v.goes_on.is);
-        none = λ tree h t. no_tree (F + h) (199 + h) list tree h (omega (arith, short)) (omega arith) (v.none (world (F + h) (199 + h)) (grown F 199 (F + h) (199 + h) (omega arith) (omega arith))) (subst (λ l. IsTreeOf toks.text l tree h) (sym all) t);
-      }))
+      subst (IsParseFault toks) same (at_end (
+        refl,
+        record {
+          more = v.goes_on.word;
+          tree = tree_of (list ++ v.goes_on.word) v.goes_on.value v.goes_on.is;
+          height = v.goes_on.value.1;
+          is = subst (λ l. IsTreeOf toks.text (l ++ v.goes_on.word) (tree_of (list ++ v.goes_on.word) v.goes_on.value v.goes_on.is) v.goes_on.value.1) all (is_tree (list ++ v.goes_on.word) v.goes_on.value v.goes_on.is);
+          none = λ tree h t. no_tree (F + h) (199 + h) list tree h (omega (arith, short)) (omega arith) (v.none (world (F + h) (199 + h)) (grown F 199 (F + h) (199 + h) (omega arith) (omega arith))) (subst (λ l. IsTreeOf toks.text l tree h) (sym all) t);
+        },
+      ))
   told F short (Stuck (suc m)) v f g =
       let i : length v.used ≡ count toks - suc m = omega (arith, size, v.count, ap length v.cut, length-append v.used (v.last ∷ v.rest)) in
       subst (IsParseFault toks) (same_fault reason.Unexpected (count toks - suc m) f (sym (unexpected m) ∙ g)) (at_token reason.Unexpected v.used v.last v.rest (count toks - suc m) v.cut i (record {

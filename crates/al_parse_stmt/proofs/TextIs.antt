@@ -5,7 +5,6 @@ use Rattle.al_lex.specs.TokenList.{TokenList}
 use Rattle.al_tree.specs.Types.{Leaves}
 use Rattle.al_tree.specs.Leaves.{leaves_of, names_from}
 use Rattle.al_tree.specs.Items.{nothing_declared, IsItems}
-use Rattle.al_tree.specs.Items as items
 use Rattle.al_tree.specs.Parts.{TokensFrom, stop_of}
 use Rattle.al_tree.specs.Reading.{Outcome}
 use Rattle.al_tree.specs.declared.cursor.ParseError.{ParseError}

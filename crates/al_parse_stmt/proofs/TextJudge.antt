@@ -1,5 +1,5 @@
 -- What the outcome of the parser of whole texts says of the tokens.
-use Rattle.std.proofs.Common.{◌≡◌, ℕ, zero, suc, pred, ◌+◌, ◌-◌, ◌<◌, ◌≤◌, max, false, List, [], ◌∷◌, ◌++◌, length, Ok, Err, refl, sym, ap, ◌∙◌, subst, arith, append_assoc, append-nil, length-append}
+use Rattle.std.proofs.Common.{◌≡◌, ℕ, zero, suc, pred, ◌<◌, ◌≤◌, max, false, List, [], ◌∷◌, ◌++◌, length, Ok, Err, refl, sym, ap, ◌∙◌, subst, arith, append_assoc, append-nil, length-append}
 use Rattle.al_lex.specs.declared.token.Token.{Token}
 use Rattle.al_tree.specs.Types.{Leaves}
 use Rattle.al_tree.specs.Items.{Declared, nothing_declared, IsItems}
@@ -119,10 +119,10 @@ module _ (leaves : Leaves) where
       behind_item (Err (Stuck zero)) e c = record {
         none = λ w' ab. subst (λ l. IsErr (loop d xs h w' l)) (sym v.cut) (passed w' ab r refl (ap parse.at_end (sym v.cut) ∙ e) (c.none (down w') (down_above w w' ab)));
         goes_on = let g = c.goes_on in record {
-            word = g.word;
-            value = g.value;
-            is = record { after = g.is.after; is = subst (λ l. IsItems leaves l g.value.0 g.is.after g.value.1) (grouped (r ++ g.word) ∙ ap (λ l. u ++ l) (sym (append_assoc v.used r g.word) ∙ ap (λ l. l ++ g.word) (sym v.cut))) g.is.is };
-          };
+          word = g.word;
+          value = g.value;
+          is = record { after = g.is.after; is = subst (λ l. IsItems leaves l g.value.0 g.is.after g.value.1) (grouped (r ++ g.word) ∙ ap (λ l. u ++ l) (sym (append_assoc v.used r g.word) ∙ ap (λ l. l ++ g.word) (sym v.cut))) g.is.is };
+        };
       }
       behind_item (Err (Stuck (suc k))) e c = record {
         used = v.used ++ c.used;

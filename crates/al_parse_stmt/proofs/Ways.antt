@@ -1,9 +1,9 @@
 -- What is known of one parser's outcomes on the same tokens with other turns and levels, and on more tokens.
-use Rattle.std.proofs.Common.{◌≡◌, ℕ, zero, suc, ◌+◌, ◌-◌, ◌<◌, ◌≤◌, max, ◌⊎◌, inl, inr, List, [], ◌∷◌, ◌++◌, length, Ok, Err, refl, sym, ap, ◌∙◌, subst, arith, append_assoc, append-nil, length-append}
+use Rattle.std.proofs.Common.{◌≡◌, ℕ, suc, ◌+◌, ◌-◌, ◌<◌, ◌≤◌, max, ◌⊎◌, inl, inr, List, [], ◌∷◌, ◌++◌, length, Ok, Err, refl, sym, ap, ◌∙◌, subst, arith, append_assoc, append-nil, length-append}
 use Rattle.al_lex.specs.declared.token.Token.{Token}
 use Rattle.al_tree.specs.declared.cursor.ParseError.TheVariants.{NoMemory, Stuck, Deep}
 use Rattle.al_tree.specs.Reading.{Outcome, Parser}
-use Rattle.al_tree.proofs.Law.{World, Above, Family, Lang, Any, Has, Law, Verdict, ReadAt, StuckAt, DeepAt, head}
+use Rattle.al_tree.proofs.Law.{Above, Lang, Any, Has, Law, Verdict, StuckAt, head}
 use Rattle.al_tree.proofs.Verdicts.{world}
 use Rattle.al_parse_stmt.proofs.Outcomes.{IsErr, behind}
 use Rattle.al_parse_stmt.proofs.Facts.{nothing}

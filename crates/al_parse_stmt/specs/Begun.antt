@@ -11,7 +11,7 @@ use Rattle.al_lex.specs.declared.kind.TokenKind.TheVariants as k
 use Rattle.al_lex.specs.declared.token.Token.{Token}
 use Rattle.al_tree.specs.Types.{Leaves, with_names}
 use Rattle.al_tree.specs.Items.{Parametrised, Declared, parameters_of}
-use Rattle.al_tree.specs.Reading.{Outcome, Parser, ◌>>=◌, ◌>>◌, pure, refuse, name_number, same_kind, looks, peek, here, take_if}
+use Rattle.al_tree.specs.Reading.{Outcome, Parser, ◌>>=◌, pure, refuse, name_number, same_kind, looks, peek, here, take_if}
 use Rattle.al_tree.specs.declared.cursor.ParseError.{ParseError}
 use Rattle.al_tree.specs.declared.cursor.ParseError.TheVariants.{NoMemory, Stuck, Deep}
 use Rattle.al_parse_type.specs.declared.part.ReadBase.{ReadBase}

@@ -22,13 +22,7 @@ fn nearer(error: ParseError, left: usize) -> usize
     match error {
         ParseError::NoMemory => 0,
         ParseError::Stuck(n) => n.min(left),
-        ParseError::Deep(n) => {
-            if n < left {
-                n + 1
-            } else {
-                left
-            }
-        }
+        ParseError::Deep(n) => { if n < left { n + 1 } else { left } }
     }
 }
 
@@ -64,11 +58,7 @@ fn first_tokens(alloc: Global, count: usize, tokens: &Cursor<'_>) -> Result<Item
 }
 
 /// The tokens up to and with the one that leaves so many.
-fn up_to(
-    alloc: Global,
-    left: usize,
-    tokens: &Cursor<'_>,
-) -> Result<Items<Token>, NoMemory>
+fn up_to(alloc: Global, left: usize, tokens: &Cursor<'_>) -> Result<Items<Token>, NoMemory>
     ensures { IfOk result (λ all. all ≡ spec.up_to left tokens.now) }
 {
     first_tokens(alloc, count_to(left, tokens), tokens)

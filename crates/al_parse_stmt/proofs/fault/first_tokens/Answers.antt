@@ -1,4 +1,4 @@
-use Rattle.std.proofs.Common.{◌≡◌, ◌≢◌, true, Err, subst, ◌+◌, ◌-◌, ◌++◌, ◌∷◌, [], ◌<◌, take, sym, ap, ◌∙◌, rules, arith}
+use Rattle.std.proofs.Common.{◌≡◌, ◌≢◌, true, Err, subst, ◌+◌, ◌-◌, ◌++◌, ◌∷◌, [], ◌<◌, take, sym, ap, ◌∙◌, arith}
 use Rattle.std.proofs.lemmas.Grind.{common_steps}
 use Rattle.al_tree.specs.declared.cursor.ParseError.TheVariants.{NoMemory}
 use Rattle.al_tree.specs.Reading.{take_if}

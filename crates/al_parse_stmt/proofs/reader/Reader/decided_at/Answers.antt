@@ -1,4 +1,4 @@
-use Rattle.std.proofs.Common.{◌≡◌, ◌-◌, true, [], ◌∷◌, length, Ok, rules, arith}
+use Rattle.std.proofs.Common.{◌≡◌, ◌-◌, true, length, Ok, rules, arith}
 use Rattle.std.proofs.lemmas.Grind.{common_steps}
 use Rattle.al_tree.specs.Leaves.{leaves_of}
 use Rattle.al_tree.specs.Reading.{take_if}
