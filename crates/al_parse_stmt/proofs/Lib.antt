@@ -14,6 +14,7 @@ pub mod HeadLaw
 pub mod ItemLaw
 pub mod Begins
 pub mod BegunLaw
+pub mod TypeLevels
 pub mod NeverDeep
 pub mod Ways
 pub mod ItemEnds

@@ -8,7 +8,7 @@ use Rattle.al_tree.specs.Items.{Declared}
 use Rattle.al_tree.specs.Reading.{◌>>=◌, pure, refuse, kind, name_number}
 use Rattle.al_tree.specs.declared.cursor.ParseError.TheVariants.{Deep}
 use Rattle.al_parse_type.specs.Parse.{sees_type_name, stars_from}
-use Rattle.al_parse_type.proofs.NeverDeep.{Fits, Levels, pure_levels, refuse_levels, bind_levels, choose_levels, look_levels, pass_levels, other_levels, stars_levels, base_within_levels}
+use Rattle.al_parse_stmt.proofs.TypeLevels.{Fits, Levels, pure_levels, refuse_levels, bind_levels, choose_levels, look_levels, pass_levels, other_levels, stars_levels, base_within_levels}
 use Rattle.al_parse_stmt.specs.Ahead.{inside_of}
 use Rattle.al_parse_stmt.specs.Begun as parse
 use Rattle.al_parse_stmt.specs.Begun.{lends, may_be, agrees, first_name, begins, begun_as}

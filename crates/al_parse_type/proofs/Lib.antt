@@ -7,4 +7,3 @@ pub mod TypeComplete
 pub mod TypeWhole
 pub mod BaseWhole
 pub mod Parts
-pub mod NeverDeep

@@ -16,8 +16,6 @@ use Rattle.al_tree.specs.declared.type_tree.TypeTree.{TypeTree}
 use Rattle.al_tree.specs.declared.type_tree.TypeTree.TheVariants as ty
 use Rattle.al_tree.specs.Reading.{Outcome, Parser, and_then, ◌>>=◌, ◌>>◌, pure, refuse, kind, same_kind, take_if, expect_if, expect}
 use Rattle.al_parse_type.specs.declared.part.Part.TheVariants as part
-use Rattle.al_parse_type.specs.declared.part.Want.{Want}
-use Rattle.al_parse_type.specs.declared.part.Want.TheVariants as want
 use Rattle.al_parse_type.specs.declared.part.ReadBase.{ReadBase}
 use Rattle.al_parse_type.specs.Parse as types_parse
 use Rattle.al_parse_type.specs.Parse.{SizedBound, SizedType, SizedPart, sees_type, sees_type_name, sees_other_name, begins_part, other_name, stars_from, bound_below, bound, bounds_from, below, is_one, type_of, sized_base, wanted, part_wanted}
@@ -206,7 +204,7 @@ module _ (leaves : Leaves) (types : List ℕ) (turns : ℕ) where
 
   -- ---- types
 
-  module _ (n : ℕ) (sub : Want → Parser SizedPart) (inside : nat_lt 0 n ≡ true → (x : Want) → Levels (pred n) (sub x)) where
+  module _ (n : ℕ) (inside : nat_lt 0 n ≡ true → (bare : Bool) → Levels (pred n) ((below leaves types turns n) (wanted bare))) (inside_part : nat_lt 0 n ≡ true → (bare : Bool) → Levels (pred n) ((below leaves types turns n) (part_wanted bare))) where
     low : {A : Type 0} {p : Parser A} → Levels n p → Levels (pred n) p
     low l = fewer_levels (pred n) n (pred_less n) l
 
@@ -214,123 +212,127 @@ module _ (leaves : Leaves) (types : List ℕ) (turns : ℕ) where
     type_of_levels (part.Type x, h) = pure_levels (x, h)
     type_of_levels (part.Bound x, h) = refuse_levels
 
-    sub_levels : (bare : Bool) → nat_lt 0 n ≡ true → Levels (pred n) (types_parse.sub_type leaves types turns n sub bare)
+    sub_levels : (bare : Bool) → nat_lt 0 n ≡ true → Levels (pred n) (types_parse.sub_type leaves types turns n (below leaves types turns n) bare)
     unfolding types_parse.sub_type
-    sub_levels bare e = bind_levels (inside e (wanted bare)) type_of_levels
+    sub_levels bare e = bind_levels (inside e bare) type_of_levels
 
-    types_levels : (bare : Bool) → nat_lt 0 n ≡ true → (m : ℕ) (xs : List TypeTree) (h : ℕ) → Levels (pred n) (types_parse.types_from leaves types turns n sub bare m xs h)
+    types_levels : (bare : Bool) → nat_lt 0 n ≡ true → (m : ℕ) (xs : List TypeTree) (h : ℕ) → Levels (pred n) (types_parse.types_from leaves types turns n (below leaves types turns n) bare m xs h)
     unfolding types_parse.types_from
     types_levels bare e zero xs h = refuse_levels
-    types_levels bare e (suc m) xs h = look_levels kind (λ next. if same_kind next k.Comma then (take_if true >>= (λ _. types_parse.sub_type leaves types turns n sub bare >>= (λ x. types_parse.types_from leaves types turns n sub bare m (xs ++ x.0 ∷ []) (max h x.1)))) else pure (xs, h))
+    types_levels bare e (suc m) xs h = look_levels kind (λ next. if same_kind next k.Comma then (take_if true >>= (λ _. types_parse.sub_type leaves types turns n (below leaves types turns n) bare >>= (λ x. types_parse.types_from leaves types turns n (below leaves types turns n) bare m (xs ++ x.0 ∷ []) (max h x.1)))) else pure (xs, h))
         (λ next. choose_levels (same_kind next k.Comma) (pass_levels (λ t. bind_levels (sub_levels bare e) (λ x. types_levels bare e m (xs ++ x.0 ∷ []) (max h x.1)))) (pure_levels (xs, h)))
 
-    arguments_levels : (bare : Bool) → nat_lt 0 n ≡ true → (t : Token) (x : SizedType) → Levels (pred n) (types_parse.arguments_after leaves types turns n sub bare t x)
+    arguments_levels : (bare : Bool) → nat_lt 0 n ≡ true → (t : Token) (x : SizedType) → Levels (pred n) (types_parse.arguments_after leaves types turns n (below leaves types turns n) bare t x)
     unfolding types_parse.arguments_after
     arguments_levels bare e t x = bind_levels (types_levels bare e turns (x.0 ∷ []) x.1) (λ xs. expect_levels k.RightBracket (λ c. pure_levels (sized_base (ty.Named t.place t.name xs.0) (xs.1 + 1))))
 
-    tuple_after_levels : (bare : Bool) → nat_lt 0 n ≡ true → (at : Place) (x : SizedType) → Levels (pred n) (types_parse.tuple_after leaves types turns n sub bare at x)
+    tuple_after_levels : (bare : Bool) → nat_lt 0 n ≡ true → (at : Place) (x : SizedType) → Levels (pred n) (types_parse.tuple_after leaves types turns n (below leaves types turns n) bare at x)
     unfolding types_parse.tuple_after
     tuple_after_levels bare e at x = bind_levels (types_levels bare e turns (x.0 ∷ []) x.1) (λ xs. choose_levels (is_one xs.0) refuse_levels (expect_levels k.RightParen (λ c. pure_levels (sized_base (ty.Tuple at xs.0) (xs.1 + 1)))))
 
-    tuple_levels : (bare : Bool) → Levels n (types_parse.tuple leaves types turns n sub bare)
+    tuple_levels : (bare : Bool) → Levels n (types_parse.tuple leaves types turns n (below leaves types turns n) bare)
     unfolding types_parse.tuple
     tuple_levels bare = open_levels (nat_lt 0 n) (no_level n) (λ e w. expect_levels k.LeftParen (λ o. bind_levels (sub_levels bare e) (λ x. tuple_after_levels bare e w.place x)))
 
-    bare_levels : Levels n (types_parse.bare_tuple leaves types turns n sub)
+    bare_levels : Levels n (types_parse.bare_tuple leaves types turns n (below leaves types turns n))
     unfolding types_parse.bare_tuple
     bare_levels = open_levels (nat_lt 0 n) (no_level n) (λ e o. bind_levels (sub_levels true e) (λ x. tuple_after_levels true e o.place x))
 
-    capacity_levels : (at : Place) (x : TypeTree) (h : ℕ) → Levels n (types_parse.capacity leaves types turns n sub at x h)
+    capacity_levels : (at : Place) (x : TypeTree) (h : ℕ) → Levels n (types_parse.capacity leaves types turns n (below leaves types turns n) at x h)
     unfolding types_parse.capacity
     capacity_levels at x h = look_levels kind (λ next. if same_kind next k.LeftBracket then (take_if true >>= (λ _. bound leaves types turns n >>= (λ i. expect k.RightBracket >>= (λ _. pure (sized_base (ty.Chan at x (Some i.0)) (max h i.1)))))) else pure (record { tree = ty.Chan at x None; height = h; takes_bracket = true }))
         (λ next. choose_levels (same_kind next k.LeftBracket) (pass_levels (λ t. bind_levels (bound_levels n) (λ i. expect_levels k.RightBracket (λ c. pure_levels (sized_base (ty.Chan at x (Some i.0)) (max h i.1)))))) (pure_levels (record { tree = ty.Chan at x None; height = h; takes_bracket = true })))
 
-    channel_levels : Levels n (types_parse.channel leaves types turns n sub)
+    channel_levels : Levels n (types_parse.channel leaves types turns n (below leaves types turns n))
     unfolding types_parse.channel
     channel_levels = open_levels (nat_lt 0 n) (no_level n) (λ e w. expect_levels k.LeftParen (λ o. bind_levels (sub_levels true e) (λ x. expect_levels k.RightParen (λ c. low (capacity_levels w.place x.0 (x.1 + 1))))))
 
-    unnamed_by_levels : (bare : Bool) (kd : TokenKind) (o : Option BasicType) → Levels n (types_parse.unnamed_by leaves types turns n sub bare kd o)
+    unnamed_by_levels : (bare : Bool) (kd : TokenKind) (o : Option BasicType) → Levels n (types_parse.unnamed_by leaves types turns n (below leaves types turns n) bare kd o)
     unnamed_by_levels bare kd (Some basic) = pass_levels (λ t. pure_levels (sized_base (ty.Basic t.place basic) 0))
     unnamed_by_levels bare kd None = choose_levels (same_kind kd k.Tuple) (tuple_levels bare) (choose_levels (same_kind kd k.Chan) channel_levels (choose_levels (bare && same_kind kd k.LeftParen) bare_levels refuse_levels))
 
-    unnamed_levels : (bare : Bool) → Levels n (types_parse.unnamed leaves types turns n sub bare)
+    unnamed_levels : (bare : Bool) → Levels n (types_parse.unnamed leaves types turns n (below leaves types turns n) bare)
     unfolding types_parse.unnamed
-    unnamed_levels bare = look_levels kind (λ next. types_parse.unnamed_by leaves types turns n sub bare next (basic_type next)) (λ next. unnamed_by_levels bare next (basic_type next))
+    unnamed_levels bare = look_levels kind (λ next. types_parse.unnamed_by leaves types turns n (below leaves types turns n) bare next (basic_type next)) (λ next. unnamed_by_levels bare next (basic_type next))
 
-    named_levels : (bare : Bool) → Levels n (types_parse.named leaves types turns n sub bare)
+    named_levels : (bare : Bool) → Levels n (types_parse.named leaves types turns n (below leaves types turns n) bare)
     unfolding types_parse.named
-    named_levels bare = pass_levels (λ t. look_levels kind (λ next. if same_kind next k.LeftBracket then (take_if (nat_lt 0 n) >>= (λ _. types_parse.sub_type leaves types turns n sub bare >>= types_parse.arguments_after leaves types turns n sub bare t)) else pure (sized_base (ty.Named t.place t.name []) 0))
+    named_levels bare = pass_levels (λ t. look_levels kind (λ next. if same_kind next k.LeftBracket then (take_if (nat_lt 0 n) >>= (λ _. types_parse.sub_type leaves types turns n (below leaves types turns n) bare >>= types_parse.arguments_after leaves types turns n (below leaves types turns n) bare t)) else pure (sized_base (ty.Named t.place t.name []) 0))
         (λ next. choose_levels (same_kind next k.LeftBracket) (open_levels (nat_lt 0 n) (no_level n) (λ e o. bind_levels (sub_levels bare e) (λ x. arguments_levels bare e t x))) (pure_levels (sized_base (ty.Named t.place t.name []) 0))))
 
-    base_levels : (bare : Bool) → Levels n (types_parse.base_at leaves types turns n sub bare)
+    base_levels : (bare : Bool) → Levels n (types_parse.base_at leaves types turns n (below leaves types turns n) bare)
     unfolding types_parse.base_at
-    base_levels bare = look_levels (sees_type_name types) (λ is. if is then types_parse.named leaves types turns n sub bare else types_parse.unnamed leaves types turns n sub bare) (λ is. choose_levels is (named_levels bare) (unnamed_levels bare))
+    base_levels bare = look_levels (sees_type_name types) (λ is. if is then types_parse.named leaves types turns n (below leaves types turns n) bare else types_parse.unnamed leaves types turns n (below leaves types turns n) bare) (λ is. choose_levels is (named_levels bare) (unnamed_levels bare))
 
-    type_after_levels : (at : Place) (x : ReadBase) → Levels n (types_parse.type_after leaves types turns n sub at x)
+    type_after_levels : (at : Place) (x : ReadBase) → Levels n (types_parse.type_after leaves types turns n (below leaves types turns n) at x)
     unfolding types_parse.type_after
     type_after_levels at x = bind_levels (pointers_levels turns at x) (λ y. choose_levels y.takes_bracket (pure_levels (y.tree, y.height)) (bind_levels (bounds_levels n turns [] 0) (λ ns. pure_levels (arrays at ns.0 y.tree, max y.height ns.1))))
 
-    array_levels : (t : Token) (x : SizedBound) → Levels n (types_parse.array_of leaves types turns n sub t x)
+    array_levels : (t : Token) (x : SizedBound) → Levels n (types_parse.array_of leaves types turns n (below leaves types turns n) t x)
     unfolding types_parse.array_of
     array_levels t x = expect_levels k.RightBracket (λ c. bind_levels (bounds_levels n turns (x.0 ∷ []) x.1) (λ ns. pure_levels (arrays t.place ns.0 (ty.Named t.place t.name []), ns.1)))
 
-    bracketed_levels : (bare : Bool) → nat_lt 0 n ≡ true → (t : Token) (x : SizedPart) → Levels (pred n) (types_parse.bracketed leaves types turns n sub bare t x)
+    bracketed_levels : (bare : Bool) → nat_lt 0 n ≡ true → (t : Token) (x : SizedPart) → Levels (pred n) (types_parse.bracketed leaves types turns n (below leaves types turns n) bare t x)
     bracketed_levels bare e t (part.Type x, h) = bind_levels (arguments_levels bare e t (x, h)) (λ y. low (type_after_levels t.place y))
     bracketed_levels bare e t (part.Bound x, h) = low (array_levels t (x, h))
 
-    bracket_part_levels : (bare : Bool) → nat_lt 0 n ≡ true → (t : Token) → Levels (pred n) (types_parse.bracket_part leaves types turns n sub bare t)
+    bracket_part_levels : (bare : Bool) → nat_lt 0 n ≡ true → (t : Token) → Levels (pred n) (types_parse.bracket_part leaves types turns n (below leaves types turns n) bare t)
     unfolding types_parse.bracket_part
-    bracket_part_levels bare e t = bind_levels (inside e (part_wanted bare)) (λ x. bracketed_levels bare e t x)
+    bracket_part_levels bare e t = bind_levels (inside_part e bare) (λ x. bracketed_levels bare e t x)
 
-    bracket_levels : (bare : Bool) (t : Token) → Levels (pred n) (types_parse.bracket leaves types turns n sub bare t)
+    bracket_levels : (bare : Bool) (t : Token) → Levels (pred n) (types_parse.bracket leaves types turns n (below leaves types turns n) bare t)
     unfolding types_parse.bracket
-    bracket_levels bare t = look_levels (begins_part types bare) (λ begins. if begins then (if nat_lt 0 n then types_parse.bracket_part leaves types turns n sub bare t else (take_if false >> refuse)) else (bound leaves types turns n >>= types_parse.array_of leaves types turns n sub t))
+    bracket_levels bare t = look_levels (begins_part types bare) (λ begins. if begins then (if nat_lt 0 n then types_parse.bracket_part leaves types turns n (below leaves types turns n) bare t else (take_if false >> refuse)) else (bound leaves types turns n >>= types_parse.array_of leaves types turns n (below leaves types turns n) t))
         (λ begins. choose_levels begins (room_levels n (λ e. bracket_part_levels bare e t)) (low (bind_levels (bound_levels n) (λ x. array_levels t x))))
 
-    named_type_levels : (bare : Bool) → Levels n (types_parse.named_type leaves types turns n sub bare)
+    named_type_levels : (bare : Bool) → Levels n (types_parse.named_type leaves types turns n (below leaves types turns n) bare)
     unfolding types_parse.named_type
-    named_type_levels bare = pass_levels (λ t. look_levels kind (λ next. if same_kind next k.LeftBracket then (take_if true >> types_parse.bracket leaves types turns n sub bare t) else types_parse.type_after leaves types turns n sub t.place (sized_base (ty.Named t.place t.name []) 0))
+    named_type_levels bare = pass_levels (λ t. look_levels kind (λ next. if same_kind next k.LeftBracket then (take_if true >> types_parse.bracket leaves types turns n (below leaves types turns n) bare t) else types_parse.type_after leaves types turns n (below leaves types turns n) t.place (sized_base (ty.Named t.place t.name []) 0))
         (λ next. choose_levels (same_kind next k.LeftBracket) (take_levels (λ o. bracket_levels bare t)) (type_after_levels t.place (sized_base (ty.Named t.place t.name []) 0))))
 
-    type_levels : (bare : Bool) → Levels n (types_parse.type_at leaves types turns n sub bare)
+    type_levels : (bare : Bool) → Levels n (types_parse.type_at leaves types turns n (below leaves types turns n) bare)
     unfolding types_parse.type_at
-    type_levels bare = look_levels (sees_type_name types) (λ is. if is then types_parse.named_type leaves types turns n sub bare else (λ ts. and_then (types_parse.unnamed leaves types turns n sub bare ts) (types_parse.type_after leaves types turns n sub (start ts))))
-        (λ is. choose_levels is (named_type_levels bare) (look_levels start (λ at. types_parse.unnamed leaves types turns n sub bare >>= types_parse.type_after leaves types turns n sub at) (λ at. bind_levels (unnamed_levels bare) (λ x. type_after_levels at x))))
+    type_levels bare = look_levels (sees_type_name types) (λ is. if is then types_parse.named_type leaves types turns n (below leaves types turns n) bare else (λ ts. and_then (types_parse.unnamed leaves types turns n (below leaves types turns n) bare ts) (types_parse.type_after leaves types turns n (below leaves types turns n) (start ts))))
+        (λ is. choose_levels is (named_type_levels bare) (look_levels start (λ at. types_parse.unnamed leaves types turns n (below leaves types turns n) bare >>= types_parse.type_after leaves types turns n (below leaves types turns n) at) (λ at. bind_levels (unnamed_levels bare) (λ x. type_after_levels at x))))
 
-    closed_bound_levels : (at : Place) (x : SizedBound) → Levels n (types_parse.closed_bound leaves types turns n sub at x)
+    closed_bound_levels : (at : Place) (x : SizedBound) → Levels n (types_parse.closed_bound leaves types turns n (below leaves types turns n) at x)
     unfolding types_parse.closed_bound
     closed_bound_levels at x = expect_levels k.RightParen (λ c. bind_levels
         (fewer_levels n (n + 1) (omega arith) (bound_after_levels (n + 1) (bound_below leaves types turns (n + 1)) (bound_below_levels (n + 1)) at (x.0, x.1 + 1))) (λ y. pure_levels (part.Bound y.0, y.1)))
 
-    closed_type_levels : nat_lt 0 n ≡ true → (at : Place) (x : SizedType) → Levels (pred n) (types_parse.closed_type leaves types turns n sub at x)
+    closed_type_levels : nat_lt 0 n ≡ true → (at : Place) (x : SizedType) → Levels (pred n) (types_parse.closed_type leaves types turns n (below leaves types turns n) at x)
     unfolding types_parse.closed_type
     closed_type_levels e at x = bind_levels (tuple_after_levels true e at x) (λ y. bind_levels (low (type_after_levels at y)) (λ z. pure_levels (part.Type z.0, z.1)))
 
-    parenthesised_levels : nat_lt 0 n ≡ true → (at : Place) (x : SizedPart) → Levels (pred n) (types_parse.parenthesised leaves types turns n sub at x)
+    parenthesised_levels : nat_lt 0 n ≡ true → (at : Place) (x : SizedPart) → Levels (pred n) (types_parse.parenthesised leaves types turns n (below leaves types turns n) at x)
     parenthesised_levels e at (part.Type x, h) = closed_type_levels e at (x, h)
     parenthesised_levels e at (part.Bound x, h) = low (closed_bound_levels at (x, h))
 
-    parenthesis_levels : (at : Place) → Levels (pred n) (types_parse.parenthesis leaves types turns n sub at)
+    parenthesis_levels : (at : Place) → Levels (pred n) (types_parse.parenthesis leaves types turns n (below leaves types turns n) at)
     unfolding types_parse.parenthesis
-    parenthesis_levels at = look_levels (begins_part types true) (λ begins. if begins then (if nat_lt 0 n then (sub want.Either >>= types_parse.parenthesised leaves types turns n sub at) else (take_if false >> refuse)) else (bound leaves types turns n >>= types_parse.closed_bound leaves types turns n sub at))
-        (λ begins. choose_levels begins (room_levels n (λ e. bind_levels (inside e want.Either) (λ x. parenthesised_levels e at x))) (low (bind_levels (bound_levels n) (λ x. closed_bound_levels at x))))
+    parenthesis_levels at = look_levels (begins_part types true) (λ begins. if begins then (if nat_lt 0 n then ((below leaves types turns n) (part_wanted true) >>= types_parse.parenthesised leaves types turns n (below leaves types turns n) at) else (take_if false >> refuse)) else (bound leaves types turns n >>= types_parse.closed_bound leaves types turns n (below leaves types turns n) at))
+        (λ begins. choose_levels begins (room_levels n (λ e. bind_levels (inside_part e true) (λ x. parenthesised_levels e at x))) (low (bind_levels (bound_levels n) (λ x. closed_bound_levels at x))))
 
-    either_levels : Levels n (types_parse.either_at leaves types turns n sub)
+    either_levels : Levels n (types_parse.either_at leaves types turns n (below leaves types turns n))
     unfolding types_parse.either_at
-    either_levels = look_levels (sees_type types) (λ is ts. (if is then (types_parse.type_at leaves types turns n sub true >>= (λ x. pure (part.Type x.0, x.1))) else (if same_kind (kind ts) k.LeftParen then (take_if true >>= (λ o. types_parse.parenthesis leaves types turns n sub o.place)) else (bound leaves types turns (n + 1) >>= (λ x. pure (part.Bound x.0, x.1))))) ts)
-        (λ is. look_levels kind (λ next. if is then (types_parse.type_at leaves types turns n sub true >>= (λ x. pure (part.Type x.0, x.1))) else (if same_kind next k.LeftParen then (take_if true >>= (λ o. types_parse.parenthesis leaves types turns n sub o.place)) else (bound leaves types turns (n + 1) >>= (λ x. pure (part.Bound x.0, x.1)))))
+    either_levels = look_levels (sees_type types) (λ is ts. (if is then (types_parse.type_at leaves types turns n (below leaves types turns n) true >>= (λ x. pure (part.Type x.0, x.1))) else (if same_kind (kind ts) k.LeftParen then (take_if true >>= (λ o. types_parse.parenthesis leaves types turns n (below leaves types turns n) o.place)) else (bound leaves types turns (n + 1) >>= (λ x. pure (part.Bound x.0, x.1))))) ts)
+        (λ is. look_levels kind (λ next. if is then (types_parse.type_at leaves types turns n (below leaves types turns n) true >>= (λ x. pure (part.Type x.0, x.1))) else (if same_kind next k.LeftParen then (take_if true >>= (λ o. types_parse.parenthesis leaves types turns n (below leaves types turns n) o.place)) else (bound leaves types turns (n + 1) >>= (λ x. pure (part.Bound x.0, x.1)))))
         (λ next. choose_levels is (bind_levels (type_levels true) (λ x. pure_levels (part.Type x.0, x.1)))
         (choose_levels (same_kind next k.LeftParen) (take_levels (λ o. parenthesis_levels o.place)) (bind_levels (fewer_levels n (n + 1) (omega arith) (bound_levels (n + 1))) (λ x. pure_levels (part.Bound x.0, x.1))))))
 
-    want_levels : (x : Want) → Levels n (types_parse.at_want leaves types turns n sub x)
-    want_levels want.AnyType = bind_levels (type_levels true) (λ x. pure_levels (part.Type x.0, x.1))
-    want_levels want.WordType = bind_levels (type_levels false) (λ x. pure_levels (part.Type x.0, x.1))
-    want_levels want.Either = either_levels
+    type_wanted : (bare : Bool) → Levels n (types_parse.at_want leaves types turns n (below leaves types turns n) (wanted bare))
+    type_wanted true = bind_levels (type_levels true) (λ x. pure_levels (part.Type x.0, x.1))
+    type_wanted false = bind_levels (type_levels false) (λ x. pure_levels (part.Type x.0, x.1))
 
-  below_levels : (n : ℕ) → nat_lt 0 n ≡ true → (x : Want) → Levels (pred n) (below leaves types turns n x)
+    any_wanted : (bare : Bool) → Levels n (types_parse.at_want leaves types turns n (below leaves types turns n) (part_wanted bare))
+    any_wanted true = either_levels
+    any_wanted false = bind_levels (type_levels false) (λ x. pure_levels (part.Type x.0, x.1))
+
+  below_levels : (n : ℕ) → nat_lt 0 n ≡ true → (bare : Bool) → Levels (pred n) (below leaves types turns n (wanted bare)) × Levels (pred n) (below leaves types turns n (part_wanted bare))
   unfolding below
-  below_levels zero e x = absurd (let z : ⊥ = cc in z)
-  below_levels (suc n) e x = want_levels n (below leaves types turns n) (below_levels n) x
+  below_levels zero e bare = absurd (let z : ⊥ = cc in z)
+  below_levels (suc n) e bare =
+      (type_wanted n (λ f b. (below_levels n f b).0) (λ f b. (below_levels n f b).1) bare, any_wanted n (λ f b. (below_levels n f b).0) (λ f b. (below_levels n f b).1) bare)
 
   pub base_within_levels : (n : ℕ) → Levels n (base_within leaves types turns n)
-  base_within_levels n = base_levels n (below leaves types turns n) (below_levels n) true
+  base_within_levels n = base_levels n (λ f b. (below_levels n f b).0) (λ f b. (below_levels n f b).1) true
