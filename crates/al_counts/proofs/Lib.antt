@@ -1,0 +1,4 @@
+pub mod Procs
+pub mod Channels
+pub mod Grows
+pub mod Counting
