@@ -1,0 +1,5 @@
+pub mod TypeForms
+pub mod SameTypes
+pub mod Conversions
+pub mod Literals
+pub mod SoundTypes

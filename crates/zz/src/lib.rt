@@ -1,0 +1,3 @@
+//! Scratch.
+
+#![tactic(auto)]
