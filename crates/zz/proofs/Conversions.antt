@@ -94,3 +94,8 @@ rows_each (more_of-Ty x r) (more_of-Ty y q) = ap (λ b. well.converts x y && b) 
 pub tuples_convert : (xs ys : List Ty) → well.converts (ty.Tuple xs) (ty.Tuple ys) ≡ each_converts xs ys
 tuples_convert xs ys =
     rows_each (hidden-the_row-Ty-1 xs) (hidden-the_row-Ty-1 ys) ∙ ap₂ each_converts (items_hidden-the_row-Ty-1 xs) (items_hidden-the_row-Ty-1 ys)
+
+-- what a pointer converts to
+pub pointer_after : (x b : Ty) → type_converts (ty.Pointer x) b ≡ true → (y : Ty) × (b ≡ ty.Pointer y)
+unfolding hidden-the_row-Ty-0 hidden
+pointer_after x b h = let y = pointers x (pointed b) h in (y.0, pointer_is b y.0 y.1)

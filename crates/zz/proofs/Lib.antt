@@ -5,3 +5,6 @@ pub mod Literals
 pub mod SoundTypes
 pub mod Outcomes
 pub mod OperandsAre
+pub mod OperatorKinds
+pub mod OperatorsAre
+pub mod CastsAre
