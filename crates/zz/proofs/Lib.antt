@@ -8,3 +8,4 @@ pub mod OperandsAre
 pub mod OperatorKinds
 pub mod OperatorsAre
 pub mod CastsAre
+pub mod PlacesAre
