@@ -271,15 +271,16 @@ size_of_type_is s at of o =
     asked (IsUsable s) 39 at (rule_39_has_size (rows s) of) (expr.SizeofType int of)
     (λ q. integer_usable s kind.Int (expr.SizeofType int of) (rw (IsValue-SizeofType s int of) ((refl, ap₂ (λ (a b : Bool). a && b) o q))) refl)
 
-size_of_plain_is : (s : Scope) (at : Place) (a : TExpr) → IsUsable s a → IfGood (size_of_plain (rows s) at a) (IsUsable s)
+size_of_plain_is : (s : Scope) (at : Place) (a : TExpr) → IsTyped s a → IfGood (size_of_plain (rows s) at a) (IsUsable s)
 unfolding size_of_plain rule_39_has_size
 size_of_plain_is s at a u =
     asked (IsUsable s) 39 at (rule_39_has_size (rows s) (type_of a)) (expr.SizeofValue int a)
     (λ q. integer_usable s kind.Int (expr.SizeofValue int a) (rw (IsValue-SizeofValue s int a) ((refl, (u.value, ap₂ (λ (a b : Bool). a && b) u.sound q)))) refl)
 
-pub size_of_value_is : OfOperand (λ s at x. IfGood (size_of_value (rows s) at x) (IsUsable s))
+pub size_of_value_is : (s : Scope) (at : Place) (x : Operand) → IsTyped s x.value → IfGood (size_of_value (rows s) at x) (IsUsable s)
 unfolding size_of_value
-size_of_value_is s at x o = after (IsUsable s) (IsUsable s) (plain x) (size_of_plain (rows s) at) (plain_usable s x o) (λ a h. size_of_plain_is s at a h)
+size_of_value_is s at x t =
+    after (λ e. e ≡ x.value) (IsUsable s) (plain x) (size_of_plain (rows s) at) (plain_is x) (λ a h. size_of_plain_is s at a (subst (IsTyped s) (sym h) t))
 
 pub used_is : (s : Scope) (at : Place) (e : TExpr) → IsTyped s e → IfGood (used at e) (λ a. (a ≡ e) × IsUsable s a)
 unfolding used rule_44_is_no_void

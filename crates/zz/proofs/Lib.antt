@@ -9,3 +9,5 @@ pub mod OperatorKinds
 pub mod OperatorsAre
 pub mod CastsAre
 pub mod PlacesAre
+pub mod NodesAre
+pub mod CalleesAre

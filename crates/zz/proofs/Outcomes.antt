@@ -47,6 +47,17 @@ asked_twice P n m at true false a f = tt
 asked_twice P n m at false true a f = tt
 asked_twice P n m at false false a f = tt
 
+pub asked_thrice : {A : Type 0} (P : A → Type 0) (n m o : ℕ) (at : Place) (h k l : Bool) (a : A) → (h ≡ true → k ≡ true → l ≡ true → P a)
+    → IfGood (judge (ask n at h ++ (ask m at k ++ ask o at l)) a) P
+asked_thrice P n m o at true true true a f = f refl refl refl
+asked_thrice P n m o at true true false a f = tt
+asked_thrice P n m o at true false true a f = tt
+asked_thrice P n m o at true false false a f = tt
+asked_thrice P n m o at false true true a f = tt
+asked_thrice P n m o at false true false a f = tt
+asked_thrice P n m o at false false true a f = tt
+asked_thrice P n m o at false false false a f = tt
+
 pub after : {A B : Type 0} (P : A → Type 0) (Q : B → Type 0) (o : Outcome A) (f : A → Outcome B) → IfGood o P → ((a : A) → P a → IfGood (f a) Q) → IfGood (and_then o f) Q
 after P Q (Good a) f h k = k a h
 after P Q (Bad fs) f h k = tt

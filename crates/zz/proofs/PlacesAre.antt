@@ -55,7 +55,7 @@ no_items t h = on (out-Ty t) h
     on (Ty-F.Array x n) h = absurd (cc)
     on _ h = refl
 
-both_true : (a b : Bool) → a ≡ true → b ≡ true → (a && b) ≡ true
+pub both_true : (a b : Bool) → a ≡ true → b ≡ true → (a && b) ≡ true
 both_true a b h k = ap₂ (λ (x y : Bool). x && y) h k
 
 read_is : (s : Scope) (p : TPlace) → IsSoundPlace s p → is_complete (rows s) (place_type p) ≡ true → IsUsable s (read p)

@@ -2,3 +2,5 @@ pub mod Typed
 pub mod Operands
 pub mod Operators
 pub mod Places
+pub mod Nodes
+pub mod Callees

@@ -67,6 +67,6 @@ pub record OperatorsAreSound : Type 0 where
   pub printed : (s : Scope) (at : Place) (format : Option (List PrintPiece)) (es : List TExpr) → All (IsPrinted s) es → IfGood (printed at format es) (IsTyped s)
   pub terminated : OfOperand (λ s at x. IfGood (terminated at x) (IsTyped s))
   pub size_of_type : (s : Scope) (at : Place) (of : Ty) → is_sound (rows s) of ≡ true → IfGood (size_of_type (rows s) at of) (IsUsable s)
-  pub size_of_value : OfOperand (λ s at x. IfGood (size_of_value (rows s) at x) (IsUsable s))
+  pub size_of_value : (s : Scope) (at : Place) (x : Operand) → IsTyped s x.value → IfGood (size_of_value (rows s) at x) (IsUsable s)
   -- a value that is used is no void
   pub used : (s : Scope) (at : Place) (e : TExpr) → IsTyped s e → IfGood (used at e) (λ a. (a ≡ e) × IsUsable s a)
