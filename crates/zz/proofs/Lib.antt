@@ -11,3 +11,5 @@ pub mod CastsAre
 pub mod PlacesAre
 pub mod NodesAre
 pub mod CalleesAre
+pub mod TargetsAre
+pub mod ExpressionLists

@@ -154,15 +154,15 @@ round_found_is s at (Some r) n h = outer_found_is s at r.number (slice_get r.loc
 
 -- ---- functions as values
 
-abbrev each_passed : List AggregateRow → List Ty → Bool
+abbrev pub each_passed : List AggregateRow → List Ty → Bool
 each_passed rows [] = true
 each_passed rows (t ∷ ts) = is_sound rows t && is_whole rows t && each_passed rows ts
 
-row_passed : (rows : List AggregateRow) {m : _} (r : Row_of-Ty m) → are_sound rows r ≡ each_passed rows (items-the_row-Ty m r)
+pub row_passed : (rows : List AggregateRow) {m : _} (r : Row_of-Ty m) → are_sound rows r ≡ each_passed rows (items-the_row-Ty m r)
 row_passed rows end_of-Ty = refl
 row_passed rows (more_of-Ty t r) = ap (λ b. is_sound rows t && is_whole rows t && b) (row_passed rows r)
 
-parameters_passed : (rows : List AggregateRow) (ts : List Ty) → are_sound rows (hidden-the_row-Ty-1 ts) ≡ each_passed rows ts
+pub parameters_passed : (rows : List AggregateRow) (ts : List Ty) → are_sound rows (hidden-the_row-Ty-1 ts) ≡ each_passed rows ts
 parameters_passed rows ts = row_passed rows (hidden-the_row-Ty-1 ts) ∙ ap (each_passed rows) (items_hidden-the_row-Ty-1 ts)
 
 each_are : (rows : List AggregateRow) (ts : List Ty) → All (λ t. is_passed rows t ≡ true) ts → each_passed rows ts ≡ true

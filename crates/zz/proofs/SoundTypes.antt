@@ -9,7 +9,7 @@ use Rattle.al_typed.specs.declared.program.Aggregate.{Aggregate as AggregateRow}
 use Rattle.al_typed.specs.declared.ty.Ty.{Ty, Void, Integer, Pointer', Array', Chan', Tuple', Aggregate, Function', Row_of-Ty, end_of-Ty, more_of-Ty, items-the_row-Ty}
 use Rattle.al_typed.specs.declared.ty.Ty.TheVariants as ty
 use Rattle.al_typed.specs.declared.ty.Ty.TheViews.{out-Ty}
-use Rattle.al_typed.specs.declared.ty.Ty.TheBlock.{hidden-the_row-Ty-0, shown-the_row-Ty-0}
+use Rattle.al_typed.specs.declared.ty.Ty.TheBlock.{hidden-the_row-Ty-0, hidden-the_row-Ty-1, shown-the_row-Ty-0}
 use denote.Hole.Carrier.{hidden, out, shown}
 use Rattle.al_typed.specs.TyFold.{fold_ty, fold_types}
 use Rattle.al_typed.specs.Types.{is_void, is_scalar, is_array, is_complete, is_complete_step, is_whole, promoted, points_to_complete, points_to_complete_at}
@@ -66,6 +66,9 @@ parts_complete rows (more_of-Ty x r) h =
 tuple_whole : (rows : List AggregateRow) (s : _) (r : Row_of-Ty _) → is_sound rows (Tuple' s r) ≡ true → is_whole rows (Tuple' s r) ≡ true
 unfolding is_complete is_array out-Ty out
 tuple_whole rows s r h = ap (λ b. b && true) (parts_complete rows r (first _ _ h))
+
+pub tuple_is_whole : (rows : List AggregateRow) (ts : List Ty) → is_sound rows (ty.Tuple ts) ≡ true → is_whole rows (ty.Tuple ts) ≡ true
+tuple_is_whole rows ts h = tuple_whole rows _ (hidden-the_row-Ty-1 ts) h
 
 -- ---- what a value is converted to
 

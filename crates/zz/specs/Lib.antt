@@ -4,3 +4,4 @@ pub mod Operators
 pub mod Places
 pub mod Nodes
 pub mod Callees
+pub mod Expressions
