@@ -13,3 +13,5 @@ pub mod NodesAre
 pub mod CalleesAre
 pub mod TargetsAre
 pub mod ExpressionLists
+pub mod NodesOf
+pub mod ExpressionsAre

@@ -35,7 +35,7 @@ use Rattle.al_operands.specs.Operands.{arithmetic_kind, converted, in_kind, plai
 use Rattle.al_places.specs.Places.{address, aimed, apply_in, assign_node, assigned, assignment, changed, changed_in, element, element_node, index, indexed, indirection, into, is_back, is_shift, load, loaded, operator, operator_kind, pointed_by, pointed_node, pointer_to, read, read_as, size_of_place, step_node, stepped, update, updated, updated_by, updated_with, zero_node, zeroed}
 use Rattle.zz.specs.Typed.{IfGood, IsOperand, IsSoundPlace, IsUsable}
 use Rattle.zz.specs.Operands.{AreUsable, IsOf}
-use Rattle.zz.specs.Places.{PlacesAreSound}
+use Rattle.zz.specs.Places.{IsOpenPlace, PlacesAreSound}
 use Rattle.zz.proofs.TypeForms.{a_complete_pointer, an_integer, array_is, pointed-Pointer, pointer_is}
 use Rattle.zz.proofs.SameTypes.{and_both}
 use Rattle.zz.proofs.SoundTypes.{sound-Array, sound-Pointer, whole-Integer, whole-Pointer, whole_after}
@@ -116,40 +116,46 @@ aim_is s a x u h =
     let same = aimed_is (type_of a) x h in
     (h ∙ sym (ap ty.Pointer same), ap (is_sound (rows s)) same ∙ sym (sound-Pointer (rows s) x) ∙ sym (ap (is_sound (rows s)) h) ∙ u.sound)
 
-pub pointed_by_is : (s : Scope) (at : Place) (a : TExpr) → IsUsable s a → IfGood (pointed_by at a) (IsSoundPlace s)
+pub pointed_by_is : (s : Scope) (at : Place) (a : TExpr) → IsUsable s a → IfGood (pointed_by at a) (IsOpenPlace s)
 unfolding pointed_by rule_30_points
 pointed_by_is s at a u =
-    asked (IsSoundPlace s) 30 at (rule_30_points (type_of a)) (pointed_node a)
+    asked (IsOpenPlace s) 30 at (rule_30_points (type_of a)) (pointed_node a)
     (λ q.
       let x = aims (type_of a) q in
       let there = aim_is s a x.0 u x.1 in
       record {
-        place = rw (IsPlace-Pointed s (aimed (type_of a)) a) ((u.value, there.0));
-        sound = there.1;
+        place = record {
+          place = rw (IsPlace-Pointed s (aimed (type_of a)) a) ((u.value, there.0));
+          sound = there.1;
+        };
+        address = tt;
       })
 
-pub indirection_is : (s : Scope) (at : Place) (x : Operand) → IsOperand s x → IfGood (indirection at x) (IsSoundPlace s)
+pub indirection_is : (s : Scope) (at : Place) (x : Operand) → IsOperand s x → IfGood (indirection at x) (IsOpenPlace s)
 unfolding indirection
-indirection_is s at x o = after (IsUsable s) (IsSoundPlace s) (plain x) (pointed_by at) (plain_usable s x o) (λ a h. pointed_by_is s at a h)
+indirection_is s at x o = after (IsUsable s) (IsOpenPlace s) (plain x) (pointed_by at) (plain_usable s x o) (λ a h. pointed_by_is s at a h)
 
-pub indexed_is : (s : Scope) (at : Place) (a b : TExpr) → IsUsable s a → IsUsable s b → IfGood (indexed (rows s) at a b) (IsSoundPlace s)
+pub indexed_is : (s : Scope) (at : Place) (a b : TExpr) → IsUsable s a → IsUsable s b → IfGood (indexed (rows s) at a b) (IsOpenPlace s)
 unfolding indexed element rule_31_indexes
 indexed_is s at a b u w =
-    asked (IsSoundPlace s) 31 at (rule_31_indexes (rows s) (type_of a) (type_of b)) (element a b)
+    asked (IsOpenPlace s) 31 at (rule_31_indexes (rows s) (type_of a) (type_of b)) (element a b)
     (λ q.
       let both = and_both (points_to_complete (rows s) (type_of a)) (is_integer (type_of b)) q in
       let x = a_complete_pointer (rows s) (type_of a) both.0 in
       let there = aim_is s a x.0 u x.1 in
       let i = in_kind_is s kind.Int b w (integer_converts (type_of b) kind.Int both.1) in
       record {
-        place = rw (IsPlace-Element s (aimed (type_of a)) a (in_kind kind.Int b))
-          ((ap (is_complete (rows s)) (aimed_is (type_of a) x.0 x.1) ∙ x.2, (u.value, (there.0, (i.usable.value, i.is)))));
-        sound = there.1;
+        place = record {
+          place = rw (IsPlace-Element s (aimed (type_of a)) a (in_kind kind.Int b))
+            ((ap (is_complete (rows s)) (aimed_is (type_of a) x.0 x.1) ∙ x.2, (u.value, (there.0, (i.usable.value, i.is)))));
+          sound = there.1;
+        };
+        address = tt;
       })
 
-pub index_is : (s : Scope) (at : Place) (x y : Operand) → IsOperand s x → IsOperand s y → IfGood (index (rows s) at x y) (IsSoundPlace s)
+pub index_is : (s : Scope) (at : Place) (x y : Operand) → IsOperand s x → IsOperand s y → IfGood (index (rows s) at x y) (IsOpenPlace s)
 unfolding index
-index_is s at x y o p = after (AreUsable s) (IsSoundPlace s) (plains x y) (λ p. indexed (rows s) at p.0 p.1) (plains_are s x y o p) (λ p h. indexed_is s at p.0 p.1 h.0 h.1)
+index_is s at x y o p = after (AreUsable s) (IsOpenPlace s) (plains x y) (λ p. indexed (rows s) at p.0 p.1) (plains_are s x y o p) (λ p h. indexed_is s at p.0 p.1 h.0 h.1)
 
 -- ---- changes
 

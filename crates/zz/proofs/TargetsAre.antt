@@ -32,7 +32,7 @@ tuple_before Void ts h = not_true h
 tuple_before a ts h = not_true (and_both (is_word a) false h).1
 
 -- the parts of a sound tuple
-tuple_parts : (rows : List AggregateRow) (xs : List Ty) → is_sound rows (ty.Tuple xs) ≡ true → each_passed rows xs ≡ true
+pub tuple_parts : (rows : List AggregateRow) (xs : List Ty) → is_sound rows (ty.Tuple xs) ≡ true → each_passed rows xs ≡ true
 tuple_parts rows xs h = sym (parameters_passed rows xs) ∙ (and_both (are_sound rows (hidden-the_row-Ty-1 xs)) _ h).0
 
 pub sound-Tuple : (rows : List AggregateRow) (xs : List Ty) → each_passed rows xs ≡ true → is_small rows (ty.Tuple xs) ≡ true → is_sound rows (ty.Tuple xs) ≡ true
