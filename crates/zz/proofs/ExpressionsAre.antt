@@ -64,7 +64,7 @@ use Rattle.zz.specs.Expressions.{AreAimed, AreFit, EachPart, Every, ExpressionsA
 use Rattle.zz.proofs.TypeForms.{tuple_is}
 use Rattle.zz.proofs.SameTypes.{and_both}
 use Rattle.zz.proofs.SoundTypes.{whole_after}
-use Rattle.zz.proofs.Outcomes.{after, also, asked, if_good, paired}
+use Rattle.zz.proofs.Outcomes.{after, also, asked, paired, where_good}
 use Rattle.zz.proofs.OperandsAre.{converted_is, operand_converts}
 use Rattle.zz.proofs.OperatorKinds.{negated, not_true}
 use Rattle.zz.proofs.OperatorsAre.{binary_is}
@@ -171,10 +171,27 @@ given_by : (s : Scope) (r : Option TReceiver) (given : List Ty) → IsGivenBy s 
 given_by s None given h = h
 given_by s (Some r) given h = h
 
+print_is : (s : Scope) (env : Environment) → env.aggregates ≡ rows s → (at : Place) (ns : List Node) → Every (IsNode s) ns → IfGood (print_call env at ns) (IsTyped s)
+unfolding print_call format_call
+print_is s env e at [] h = tt
+print_is s env e at (n ∷ ns) h = on n.text
+  where
+    on : (o : Option (List ℕ)) → IfGood (format_call env at o ns) (IsTyped s)
+    on None = tt
+    on (Some bytes) =
+        after (All (IsPrinted s)) (IsTyped s) (prints (map (operand_of env) ns)) (printed at (pieces bytes)) (prints_are s (map (operand_of env) ns) (operands_of s env e ns h.1))
+        (λ es a. printed_is s at (pieces bytes) es a)
+
+terminate_is : (s : Scope) (env : Environment) → env.aggregates ≡ rows s → (at : Place) (ns : List Node) → Every (IsNode s) ns → IfGood (terminate_call env at ns) (IsTyped s)
+unfolding terminate_call
+terminate_is s env e at [] h = tt
+terminate_is s env e at (n ∷ []) h = after (IsOperand s) (IsTyped s) (operand_of env n) (terminated at) (operand_of_is s env e n h.0) (λ x o. terminated_is s at x o)
+terminate_is s env e at (n ∷ (m ∷ ns)) h = tt
+
 called_is : (s : Scope) (env : Environment) → env.aggregates ≡ rows s → (at : Place) (ns : List Node) (c : Callee) → Every (IsNode s) ns → IsCallee s c → IfGood (called env at ns c) (IsTyped s)
 unfolding called
-called_is s env e at ns callee.Print h c = ?
-called_is s env e at ns callee.Terminate h c = ?
+called_is s env e at ns callee.Print h c = print_is s env e at ns h
+called_is s env e at ns callee.Terminate h c = terminate_is s env e at ns h
 called_is s env e at ns (callee.Function returns number receiver parameters) h c =
     after (AreArguments s parameters) (IsTyped s) (arguments at parameters (map (operand_of env) ns)) (λ es. Good (expr.Call returns number receiver es))
     (arguments_are s at parameters (map (operand_of env) ns) c.types.passed (operands_of s env e ns h))
@@ -192,3 +209,125 @@ called_is s env e at ns (callee.Pointer returns pointer parameters) h c =
       sound = c.types.sound;
       whole = c.types.whole;
     })
+
+-- what holds by two laws
+both_of : {A : Type 0} (P Q : A → Type 0) (o : Outcome A) → IfGood o P → IfGood o Q → IfGood o (λ a. P a × Q a)
+both_of P Q (Good a) h k = (h, k)
+both_of P Q (Bad fs) h k = tt
+
+-- `op=`
+compound_is : (s : Scope) (at : Place) (how : _) (f : Found) (x : Operand) → IsFound s f → IsOperand s x → IfGood (compound (rows s) at how f x) (IsTyped s)
+unfolding compound
+compound_is s at how f x h o =
+    after (IsSoundPlace s) (IsTyped s) (placed at f) _ (placed_is s at f h)
+    (λ p q. also (IsUsable s) (IsTyped s) (updated (rows s) at how p x) (updated_is s at how p x q o) (λ d u. usable_typed s d u))
+
+-- ---- assignments of each form
+
+assignment_is : (s : Scope) (env : Environment) → env.aggregates ≡ rows s → (at : Place) (op : AssignOp) (a b : Node) → IsNode s a → IsNode s b
+    → (op ≡ assign.Assign → IfGood (operand_of env b) (λ x. IfGood (a.target false at (type_of x.value)) (λ t. is_small_target (rows s) t ≡ true)))
+    → IfGood (assignment env at op a b) (IsTyped s)
+unfolding assignment assigned
+assignment_is s env e at assign.Assign a b h k small =
+    after (λ x. IsOperand s x × IfGood (a.target false at (type_of x.value)) (λ t. is_small_target (rows s) t ≡ true)) (IsTyped s) (operand_of env b) _
+    (both_of (IsOperand s) _ (operand_of env b) (operand_of_is s env e b k) (small refl))
+    (λ x o. after (λ t. IsAimed s t × (is_small_target (rows s) t ≡ true)) (IsTyped s) (a.target false at (type_of x.value)) _
+      (both_of (IsAimed s) _ (a.target false at (type_of x.value)) (h.target false at (type_of x.value) o.0.usable.sound o.0.usable.whole) o.1)
+      (λ t q. also (IsUsable s) (IsTyped s) (assigned_to at t x) (assigned_to_is s at t x q.0 q.1 o.0) (λ d u. usable_typed s d u)))
+assignment_is s env e at (assign.Compound how) a b h k small =
+    after (λ (p : Found × Operand). IsFound s p.0 × IsOperand s p.1) (IsTyped s) (pair a.found (operand_of env b)) _
+    (paired (IsFound s) (IsOperand s) a.found (operand_of env b) h.found (operand_of_is s env e b k))
+    (λ p q. subst (λ rs. IfGood (compound rs at how p.0 p.1) (IsTyped s)) (sym e) (compound_is s at how p.0 p.1 q.0 q.1))
+assignment_is s env e at assign.Send a b h k small =
+    after (λ (p : Operand × Operand). IsOperand s p.0 × IsOperand s p.1) (IsTyped s) (pair (operand_of env a) (operand_of env b)) _
+    (paired (IsOperand s) (IsOperand s) (operand_of env a) (operand_of env b) (operand_of_is s env e a h) (operand_of_is s env e b k))
+    (λ p q. sent_is s at p.0 p.1 q.0 q.1)
+
+-- ---- each node
+
+-- a node that is neither a name, a member, a string, nil nor a tuple
+plain_node_is : (s : Scope) (env : Environment) → env.aggregates ≡ rows s → (at : Place) (o : Outcome Found) → IfGood o (IsFound s) → IsNode s (plain_node env at o)
+plain_node_is s env e at o h = record {
+  found = h;
+  target = λ is_part by t q w. aim_is s o h is_part by t;
+  callee =
+      after (IsOperand s) (IsCallee s) (and_then o (operand env.aggregates at)) (pointer_callee at)
+      (after (IsFound s) (IsOperand s) o (operand env.aggregates at) h (λ f k. operand_in s env e at f k))
+      (λ x k. pointer_callee_is s at x k);
+}
+
+-- where the address of what is found is taken
+address_fit : (s : Scope) (env : Environment) (here : Here) (at : Place) (op : Prefix) (a : Node) → IsFit s env here (Expr-F.Unary at op a)
+    → IfGood a.found (λ f. op ≡ prefix.Address → IsShared s f)
+address_fit s env here at prefix.Address a k = also (IsShared s) (λ f. prefix.Address ≡ prefix.Address → IsShared s f) a.found k (λ f q e. q)
+address_fit s env here at op a k = where_good (λ f. op ≡ prefix.Address → IsShared s f) a.found (λ f q e. absurd (cc))
+
+-- where a value is assigned
+assign_fit : (s : Scope) (env : Environment) (here : Here) (at : Place) (op : AssignOp) (a b : Node) → IsFit s env here (Expr-F.Assign at op a b)
+    → op ≡ assign.Assign → IfGood (operand_of env b) (λ x. IfGood (a.target false at (type_of x.value)) (λ t. is_small_target (rows s) t ≡ true))
+assign_fit s env here at assign.Assign a b k e = k
+assign_fit s env here at op a b k e = absurd (cc)
+
+pub step_is : (s : Scope) (env : Environment) (here : Here) → Tells s env here → (z : Expr-F Node) → EachPart (IsNode s) z → IsFit s env here z → IsNode s (step env here z)
+step_is s env here t (Expr-F.Number at n) h k = plain_node_is s env t.aggregates at (Good (number n)) (number_is s n k)
+step_is s env here t (Expr-F.Char at n) h k = plain_node_is s env t.aggregates at (Good (character n)) (character_is s n k)
+step_is s env here t (Expr-F.Text at bytes) h k =
+    let p = plain_node_is s env t.aggregates at (text_found at (number_at here.texts at)) (text_is s at (number_at here.texts at) k) in
+    record { found = p.found; target = p.target; callee = p.callee }
+step_is s env here t (Expr-F.Nil at) h k =
+    let p = plain_node_is s env t.aggregates at (Good (nil_found at)) (nil_is s at) in
+    record { found = p.found; target = λ is_part by u o w. nil_aim_is s is_part by u o w; callee = p.callee }
+step_is s env here t (Expr-F.Name at name) h k =
+    let p = plain_node_is s env t.aggregates at (named env here at) (declared_is s env here t at (declaration_at env.scopes.names at)) in
+    record { found = p.found; target = p.target; callee = declared_callee_is s env here t at (declaration_at env.scopes.names at) }
+step_is s env here t (Expr-F.Tuple at parts) h k =
+    let p = plain_node_is s env t.aggregates at (and_then (columns (map (operand_of env) parts)) (λ c. Good (tuple c)))
+      (after (λ c. AreColumns s c × (is_small (rows s) (ty.Tuple c.types) ≡ true)) (IsFound s) (columns (map (operand_of env) parts)) _
+        (both_of (AreColumns s) _ (columns (map (operand_of env) parts)) (columns_are s (map (operand_of env) parts) (operands_of s env t.aggregates parts h)) k)
+        (λ c a. columns_tuple s c a.0 a.1)) in
+    record { found = p.found; target = λ is_part by u o w. tuple_aim_is s parts h is_part by u o; callee = p.callee }
+step_is s env here t (Expr-F.Unary at op a) h k =
+    plain_node_is s env t.aggregates at (and_then a.found (unary env.aggregates at op a.at))
+    (after (λ f. IsFound s f × (op ≡ prefix.Address → IsShared s f)) (IsFound s) a.found _ (both_of (IsFound s) _ a.found h.found (address_fit s env here at op a k))
+      (λ f q. subst (λ rs. IfGood (unary rs at op a.at f) (IsFound s)) (sym t.aggregates) (unary_is s at op a.at f q.0 q.1)))
+step_is s env here t (Expr-F.Cast at to a) h k =
+    plain_node_is s env t.aggregates at (gives (and_then a.found (cast_to env.aggregates at (written env here to) a.at)))
+    (gives_typed s _ (after (IsFound s) (IsTyped s) a.found _ h.found
+      (λ f q. subst (λ rs. IfGood (cast_to rs at (written env here to) a.at f) (IsTyped s)) (sym t.aggregates) (cast_to_is s at (written env here to) a.at f q k))))
+step_is s env here t (Expr-F.SizeofType at of) h k =
+    plain_node_is s env t.aggregates at (gives (type_sized env.aggregates at (written env here of)))
+    (gives_usable s _ (subst (λ rs. IfGood (type_sized rs at (written env here of)) (IsUsable s)) (sym t.aggregates) (type_sized_is s at (written env here of) k)))
+step_is s env here t (Expr-F.SizeofValue at a) h k =
+    plain_node_is s env t.aggregates at (gives (and_then a.found (sized env.aggregates at)))
+    (gives_usable s _ (after (IsFound s) (IsUsable s) a.found _ h.found (λ f q. subst (λ rs. IfGood (sized rs at f) (IsUsable s)) (sym t.aggregates) (sized_is s at f q))))
+step_is s env here t (Expr-F.Index at a b) h k =
+    plain_node_is s env t.aggregates at (is_at (and_then (pair (operand_of env a) (operand_of env b)) (λ p. index env.aggregates at p.0 p.1)))
+    (is_at_is s _ (after (λ (p : Operand × Operand). IsOperand s p.0 × IsOperand s p.1) (IsOpenPlace s) (pair (operand_of env a) (operand_of env b)) _
+      (paired (IsOperand s) (IsOperand s) (operand_of env a) (operand_of env b) (operand_of_is s env t.aggregates a h.0) (operand_of_is s env t.aggregates b h.1))
+      (λ p q. subst (λ rs. IfGood (index rs at p.0 p.1) (IsOpenPlace s)) (sym t.aggregates) (index_is s at p.0 p.1 q.0 q.1))))
+step_is s env here t (Expr-F.Member at a how name) h k =
+    let p = plain_node_is s env t.aggregates at (and_then a.found (member_found env here at how name.name a.at))
+      (after (IsFound s) (IsFound s) a.found _ h.found (λ f q. member_found_is s env here t at how name.name a.at f q)) in
+    record {
+      found = p.found;
+      target = p.target;
+      callee = after (IsFound s) (IsCallee s) a.found (member_callee env here at how name.name a.at) h.found (λ f q. member_callee_is s env here t at how name.name a.at f q);
+    }
+step_is s env here t (Expr-F.Call at f ns) h k =
+    plain_node_is s env t.aggregates at (gives (and_then f.callee (called env at ns)))
+    (gives_typed s _ (after (IsCallee s) (IsTyped s) f.callee (called env at ns) h.0.callee (λ c q. called_is s env t.aggregates at ns c h.1 q)))
+step_is s env here t (Expr-F.Postfix at op a) h k =
+    plain_node_is s env t.aggregates at (and_then a.found (postfix_found env.aggregates at op a.at))
+    (after (IsFound s) (IsFound s) a.found _ h.found (λ f q. subst (λ rs. IfGood (postfix_found rs at op a.at f) (IsFound s)) (sym t.aggregates) (postfix_is s at op a.at f q)))
+step_is s env here t (Expr-F.Binary at op a b) h k =
+    plain_node_is s env t.aggregates at (gives (and_then (pair (operand_of env a) (operand_of env b)) (λ p. binary env.aggregates at op p.0 p.1)))
+    (gives_usable s _ (after (λ (p : Operand × Operand). IsOperand s p.0 × IsOperand s p.1) (IsUsable s) (pair (operand_of env a) (operand_of env b)) _
+      (paired (IsOperand s) (IsOperand s) (operand_of env a) (operand_of env b) (operand_of_is s env t.aggregates a h.0) (operand_of_is s env t.aggregates b h.1))
+      (λ p q. subst (λ rs. IfGood (binary rs at op p.0 p.1) (IsUsable s)) (sym t.aggregates) (binary_is op s at p.0 p.1 q.0 q.1))))
+step_is s env here t (Expr-F.Iterator at a b) h k = plain_node_is s env t.aggregates at (iterator_found at (number_at here.iterators at)) (iterator_is s at (number_at here.iterators at) k)
+step_is s env here t (Expr-F.Assign at op a b) h k =
+    plain_node_is s env t.aggregates at (gives (assignment env at op a b)) (gives_typed s (assignment env at op a b) (assignment_is s env t.aggregates at op a b h.0 h.1 (assign_fit s env here at op a b k)))
+step_is s env here t (Expr-F.Sequence at ns) h k =
+    plain_node_is s env t.aggregates at (gives (and_then (each (map (dropped_of env) ns)) (sequenced at)))
+    (gives_typed s _ (after (Every (IsTyped s)) (IsTyped s) (each (map (dropped_of env) ns)) (sequenced at) (each_is (IsTyped s) (map (dropped_of env) ns) (dropped_each s env t.aggregates ns h))
+      (λ es q. sequenced_is s at es q)))
