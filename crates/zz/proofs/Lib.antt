@@ -15,3 +15,4 @@ pub mod TargetsAre
 pub mod ExpressionLists
 pub mod NodesOf
 pub mod ExpressionsAre
+pub mod TreesAre
