@@ -1,21 +1,18 @@
 -- What is called.
-use Rattle.std.proofs.Common.{◌≡◌, ℕ, ◌++◌, Bool, true, false, ◌&&◌, List, [], ◌∷◌, Option, Some, None, refl, sym, ap, ap₂, ◌∙◌, subst, inl, inr}
-use Rattle.std.specs.Prelude.{◌⊎◌, ◌||◌, not, is_some, All, ⊤, option_and_then}
+use Rattle.std.proofs.Common.{◌≡◌, ℕ, true, List, [], Option, Some, None, refl, sym, ap, ◌∙◌, subst}
+use Rattle.std.specs.Prelude.{option_and_then}
 use Rattle.al_base.specs.declared.place.Place.{Place}
-use Rattle.al_rules.specs.Outcome.{Good, Bad, ask}
 use Rattle.al_scope.specs.declared.declaration.Declaration.{Declaration}
 use Rattle.al_scope.specs.declared.declaration.Declaration.TheVariants as declaration
-use Rattle.al_typed.specs.declared.program.Aggregate.{Aggregate as AggregateRow}
 use Rattle.al_typed.specs.declared.ty.Ty.{Ty}
 use Rattle.al_typed.specs.declared.ty.Ty.TheVariants as ty
 use Rattle.al_typed.specs.declared.expression.Passed.{Passed}
 use Rattle.al_typed.specs.declared.expression.Passed.TheVariants as passed
 use Rattle.al_typed.specs.declared.expression.TExpr.{TExpr}
-use Rattle.al_typed.specs.declared.expression.TPlace.{TPlace}
 use Rattle.al_typed.specs.declared.expression.TReceiver.{TReceiver}
 use Rattle.al_typed.specs.declared.expression.TReceiver.TheVariants as receiver
-use Rattle.al_typed.specs.Typed.{parameter_types, place_type, type_of}
-use Rattle.al_typed.specs.WellTyped.{Gives, IsCallable, LeadsTo, Scope, is_sound, passes, rows}
+use Rattle.al_typed.specs.Typed.{place_type, type_of}
+use Rattle.al_typed.specs.WellTyped.{Gives, LeadsTo, Scope, is_sound, passes, rows}
 use Rattle.al_typed.proofs.ValueRules.{Gives-Place, Gives-Pointer, Gives-Value-Nothing, Gives-Value-Value}
 use Rattle.al_convert.specs.Same.{parameters_of, pointed, returns_of}
 use Rattle.al_environment.specs.declared.environment.Environment.{Environment}
@@ -31,13 +28,11 @@ use Rattle.al_type_nodes.specs.Rules.{rule_5_is_defined, rule_10_is_open, rule_5
 use Rattle.al_type_nodes.specs.Uses.{operand}
 use Rattle.al_type_nodes.specs.Names.{declared, number_of}
 use Rattle.al_type_nodes.specs.Members.{aggregate_of, arrow, dot, function_in}
-use Rattle.al_type_nodes.specs.Calls.{arrow_receiver, dot_receiver, object, operand_receiver, parameters_behind, place_object, place_receiver, pointer_object, pointer_receiver, returns_behind, value_object, value_receiver}
-use Rattle.al_type_calls.specs.declared.callee.Callee.{Callee}
-use Rattle.al_type_calls.specs.declared.callee.Callee.TheVariants as callee
+use Rattle.al_type_nodes.specs.Calls.{arrow_receiver, dot_receiver, object, operand_receiver, place_object, place_receiver, pointer_object, pointer_receiver, value_object, value_receiver}
 use Rattle.al_type_calls.specs.Callees.{arrow_callee, arrow_member, arrow_method, arrowed, callee_as, declared_callee, defined_callee, dot_callee, dot_member, dot_method, dotted, found_callee, found_type, function_called, function_callee, method_callee, method_called, pointed_callee, pointer_callee, value_callee, variable_callee}
-use Rattle.zz.specs.Typed.{IfGood, IsFoundValue, IsOperand, IsSoundPlace, IsTyped, IsUsable}
-use Rattle.zz.specs.Nodes.{Calls, IsFound, IsMethodOf, Tells, is_passed}
-use Rattle.zz.specs.Callees.{CalleesAreSound, HasTypes, IsCallee, IsGivenBy, IsNamedCallee, IsPointerCallee}
+use Rattle.zz.specs.Typed.{IfGood, IsOperand, IsTyped, IsUsable}
+use Rattle.zz.specs.Nodes.{Calls, IsFound, Tells}
+use Rattle.zz.specs.Callees.{CalleesAreSound, HasTypes, IsCallee, IsGivenBy, IsNamedCallee}
 use Rattle.zz.proofs.TypeForms.{function_is, pointer_is, there}
 use Rattle.zz.proofs.SoundTypes.{sound-Pointer}
 use Rattle.zz.proofs.Outcomes.{after, asked, asked_thrice}

@@ -2,11 +2,10 @@
 use Rattle.std.proofs.Common.{◌≡◌, ℕ, Bool, true, false, ◌&&◌, List, [], ◌∷◌, map, Option, Some, None, refl, sym, ap, ap₂, ◌∙◌, subst, inl, inr}
 use Rattle.std.proofs.lemmas.List.Elements.{All-head, All-tail}
 use Rattle.std.specs.Option.{unwrap_or}
-use Rattle.std.specs.Prelude.{◌⊎◌, ◌||◌, not, is_some, if◌then◌else◌, All, ⊤}
-use Rattle.al_base.specs.declared.arith.Kind.{Kind}
+use Rattle.std.specs.Prelude.{◌||◌, if◌then◌else◌, All}
 use Rattle.al_base.specs.declared.arith.Kind.TheVariants as kind
 use Rattle.al_base.specs.declared.place.Place.{Place}
-use Rattle.al_rules.specs.Outcome.{Good, Bad}
+use Rattle.al_rules.specs.Outcome.{Good}
 use Rattle.al_typed.specs.declared.ty.Ty.{Ty}
 use Rattle.al_typed.specs.declared.ty.Ty.TheVariants as ty
 use Rattle.al_typed.specs.declared.ty.Ty.TheViews.{out-Ty}
@@ -17,15 +16,15 @@ use Rattle.al_typed.specs.declared.expression.PrintPiece.TheVariants as print
 use Rattle.al_typed.specs.declared.expression.TExpr.{TExpr}
 use Rattle.al_typed.specs.declared.expression.TExpr.TheVariants as expr
 use Rattle.al_typed.specs.declared.program.Aggregate.{Aggregate as AggregateRow}
-use Rattle.al_typed.specs.Types.{byte_pointer, int, is_complete, is_void, is_whole, void_pointer}
+use Rattle.al_typed.specs.Types.{byte_pointer, int, is_void, is_whole, void_pointer}
 use Rattle.al_typed.specs.Typed.{type_of}
 use Rattle.al_typed.specs.WellTyped as well
 use Rattle.al_typed.specs.WellTyped.{IsChannel, IsChannelOf, IsPromoted, IsValue, Prints, Scope, is_sound, is_stored, is_word, rows}
 use Rattle.al_typed.proofs.ValueRules.{EachValue, IsValue-CanReceive, IsValue-CanSend, IsValue-Cast, IsValue-Print, IsValue-Receive, IsValue-Send, IsValue-SizeofType, IsValue-SizeofValue, IsValue-Terminate}
-use Rattle.al_convert.specs.Same.{same, pointed, is_of_kind}
+use Rattle.al_convert.specs.Same.{pointed, is_of_kind}
 use Rattle.al_convert.specs.Kinds.{element_of, is_channel, is_integer}
 use Rattle.al_operands.specs.declared.operand.Operand.{Operand}
-use Rattle.al_operands.specs.Rules.{are_cast, is_address_sized, is_byte_at, is_nil, is_pointer, is_printed, is_taken, is_text, nil_is_cast, printed_by, rule_33_converts, rule_36_prints, rule_38_casts, rule_39_has_size, rule_43_is_channel, rule_43_sends, rule_44_is_no_void, takes_none}
+use Rattle.al_operands.specs.Rules.{are_cast, is_address_sized, is_byte_at, is_nil, is_pointer, is_taken, is_text, nil_is_cast, rule_33_converts, rule_36_prints, rule_38_casts, rule_39_has_size, rule_43_is_channel, rule_43_sends, rule_44_is_no_void}
 use Rattle.al_operands.specs.Operands.{converted, in_kind, plain, promoted_kind, taken}
 use Rattle.al_operators.specs.Operators.{can_receive, can_send, carried, cast, cast_node, cast_value, castable, channel, printable, printed, printed_as, receive, received, send, sent, sent_through, size_of_plain, size_of_type, size_of_value, terminated, used}
 use Rattle.zz.specs.Typed.{IfGood, IsOperand, IsTyped, IsUsable}
@@ -33,10 +32,10 @@ use Rattle.zz.specs.Operands.{IsOf}
 use Rattle.zz.specs.Operators.{IsPrinted, OfOperand, OfOperands, OperatorsAreSound}
 use Rattle.zz.proofs.TypeForms.{a_channel, a_pointer, an_integer, channel_is, element_of-Chan, of_kind_is, pointer_is}
 use Rattle.zz.proofs.SameTypes.{and_both}
-use Rattle.zz.proofs.SoundTypes.{same_converts, sound-Chan, whole_after, whole_no_void}
+use Rattle.zz.proofs.SoundTypes.{same_converts, sound-Chan, whole_after}
 use Rattle.zz.proofs.Conversions.{pointer_converts}
 use Rattle.zz.proofs.Literals.{pointer_to_channel}
-use Rattle.zz.proofs.Outcomes.{after, also, asked}
+use Rattle.zz.proofs.Outcomes.{after, asked}
 use Rattle.zz.proofs.OperandsAre.{converted_is, in_kind_is, operand_converts, plain_is, plain_usable, taken_is}
 use Rattle.zz.proofs.OperatorKinds.{either, integer_converts, negated, nil_operand, not_true, promoted-promoted_kind}
 use Rattle.zz.proofs.OperatorsAre.{added_is, addition_is, binary_is, bitwise_is, combined_is, complement_is, condition_is, decision_is, equality_is, integer_usable, multiplication_is, multiplied_is, negation_is, order_is, shift_is, shifted_by_is, signed_is, subtracted_is, subtraction_is}

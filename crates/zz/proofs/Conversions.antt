@@ -1,23 +1,18 @@
 -- What converts by the rules converts in a well typed program.
-use Rattle.std.proofs.Common.{◌≡◌, ℕ, Bool, true, false, ◌&&◌, List, [], ◌∷◌, map, Option, Some, None, refl, sym, ap, ap₂, ◌∙◌, subst}
-use Rattle.std.specs.Prelude.{◌||◌, is_some, not}
-use Rattle.std.proofs.lemmas.Bool.{eqb-true, eq-eqb}
-use Rattle.al_base.specs.declared.place.Place.{Place}
-use Rattle.al_base.specs.declared.arith.Kind.{Kind}
-use Rattle.al_base.specs.declared.arith.Kind.TheVariants as kind
+use Rattle.std.proofs.Common.{◌≡◌, ℕ, Bool, true, false, ◌&&◌, List, [], ◌∷◌, Option, Some, None, refl, sym, ap, ap₂, ◌∙◌}
+use Rattle.std.proofs.lemmas.Bool.{eq-eqb}
 use Rattle.al_typed.specs.declared.ty.Ty.{Ty, Void, Integer, Pointer', Array', Chan', Tuple', Aggregate, Function', Row_of-Ty, end_of-Ty, more_of-Ty, items-the_row-Ty, items_hidden-the_row-Ty-1}
 use Rattle.al_typed.specs.declared.ty.Ty.TheVariants as ty
-use Rattle.al_typed.specs.declared.ty.Ty.TheViews.{out-Ty, roll-out-Ty}
-use Rattle.al_typed.specs.declared.ty.Ty.TheBlock.{hidden-the_row-Ty-0, hidden-the_row-Ty-1, shown-the_row-Ty-0, shown-the_row-Ty-1}
-use denote.Hole.Carrier.{hidden, out, shown}
-use Rattle.al_typed.specs.Types.{is_void, is_scalar}
+use Rattle.al_typed.specs.declared.ty.Ty.TheViews.{out-Ty}
+use Rattle.al_typed.specs.declared.ty.Ty.TheBlock.{hidden-the_row-Ty-0, hidden-the_row-Ty-1}
+use denote.Hole.Carrier.{hidden, out}
 use Rattle.al_typed.specs.WellTyped as well
 use Rattle.al_typed.specs.WellTyped.{convert_all, is_word}
-use Rattle.al_convert.specs.Same.{same, same_list, are_same, passes, pointed, parts_of, is_aggregate, parts_at}
-use Rattle.al_convert.specs.Kinds.{is_integer, element_of}
+use Rattle.al_convert.specs.Same.{pointed, parts_of}
+use Rattle.al_convert.specs.Kinds.{element_of}
 use Rattle.al_convert.specs.Conversions.{pointers_convert, channels_convert, type_converts, row_converts}
-use Rattle.zz.proofs.TypeForms.{an_integer, pointer_is, channel_is, tuple_is, aggregate_is, out_at-Tuple, parts_of-Tuple, some_is}
-use Rattle.zz.proofs.SameTypes.{and_both, items_are, row_tuple_is}
+use Rattle.zz.proofs.TypeForms.{an_integer, pointer_is, channel_is, tuple_is, aggregate_is}
+use Rattle.zz.proofs.SameTypes.{and_both}
 
 -- two pointers, two channels
 

@@ -1,28 +1,23 @@
 -- Lists of parts: of tuples, arguments, prints and sequences.
-use Rattle.std.proofs.Common.{◌≡◌, ℕ, zero, suc, ◌-◌, Bool, true, false, ◌&&◌, List, [], ◌∷◌, map, take, length, Option, Some, None, refl, sym, ap, ap₂, ◌∙◌, subst}
-use Rattle.std.specs.Prelude.{All, ◌||◌, not, ⊤, slice_get}
+use Rattle.std.proofs.Common.{◌≡◌, ℕ, zero, suc, ◌-◌, true, List, [], ◌∷◌, map, take, length, Option, Some, None, refl, ap, ap₂, ◌∙◌, subst}
+use Rattle.std.specs.Prelude.{All, slice_get}
 use Rattle.std.proofs.lemmas.List.Elements.{All-cons, All-head, All-nil, All-tail}
 use Rattle.al_base.specs.declared.place.Place.{Place}
-use Rattle.al_rules.specs.Outcome.{Outcome, Good, Bad, both, ask}
-use Rattle.al_typed.specs.declared.program.Aggregate.{Aggregate as AggregateRow}
+use Rattle.al_rules.specs.Outcome.{Outcome, Good, Bad, both}
 use Rattle.al_typed.specs.declared.ty.Ty.{Ty}
 use Rattle.al_typed.specs.declared.ty.Ty.TheVariants as ty
 use Rattle.al_typed.specs.declared.expression.TExpr.{TExpr}
 use Rattle.al_typed.specs.declared.expression.TExpr.TheVariants as expr
-use Rattle.al_typed.specs.Types.{is_void, is_whole}
+use Rattle.al_typed.specs.Types.{is_whole}
 use Rattle.al_typed.specs.Typed.{type_of}
-use Rattle.al_typed.specs.WellTyped.{IsValue, Scope, is_small, is_sound, rows}
+use Rattle.al_typed.specs.WellTyped.{Scope, is_small, is_sound, rows}
 use Rattle.al_typed.proofs.ValueRules.{EachValue, IsValue-Sequence, IsValue-Tuple}
-use Rattle.al_convert.specs.declared.literal.Literal.{Literal}
-use Rattle.al_convert.specs.declared.literal.Literal.TheVariants as literal
-use Rattle.al_convert.specs.Same.{Test, all_pass, pass, parts_of}
+use Rattle.al_convert.specs.Same.{all_pass, pass}
 use Rattle.al_operands.specs.declared.operand.Operand.{Operand}
 use Rattle.al_operands.specs.Operands.{taken}
-use Rattle.al_operators.specs.Operators.{printable}
-use Rattle.al_type_nodes.specs.declared.found.Found.{Found}
 use Rattle.al_type_expr.specs.declared.columns.Columns.{Columns}
-use Rattle.al_type_expr.specs.Lists.{argument, arguments, columns, each, no_columns, print_of, prints, sequence, sequenced, tuple, with_last, with_part}
-use Rattle.zz.specs.Typed.{IfGood, IsOperand, IsTyped, IsUsable, has_type}
+use Rattle.al_type_expr.specs.Lists.{argument, arguments, columns, each, print_of, prints, sequence, sequenced, tuple, with_last, with_part}
+use Rattle.zz.specs.Typed.{IfGood, IsOperand, IsTyped, has_type}
 use Rattle.zz.specs.Operands.{IsOf}
 use Rattle.zz.specs.Operators.{IsPrinted}
 use Rattle.zz.specs.Nodes.{IsFound, is_passed}
@@ -31,7 +26,7 @@ use Rattle.zz.proofs.TypeForms.{parts_of-Tuple}
 use Rattle.zz.proofs.SameTypes.{and_both}
 use Rattle.zz.proofs.SoundTypes.{tuple_is_whole}
 use Rattle.zz.proofs.Literals.{has_type-Tuple}
-use Rattle.zz.proofs.Outcomes.{after, also}
+use Rattle.zz.proofs.Outcomes.{after}
 use Rattle.zz.proofs.OperandsAre.{taken_is}
 use Rattle.zz.proofs.CastsAre.{printable_is}
 use Rattle.zz.proofs.PlacesAre.{both_true}

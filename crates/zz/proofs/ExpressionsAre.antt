@@ -1,22 +1,17 @@
 -- What trees of expressions give.
-use Rattle.std.proofs.Common.{◌≡◌, ℕ, ◌<◌, Bool, true, false, ◌&&◌, List, [], ◌∷◌, map, Option, Some, None, refl, sym, ap, ap₂, ◌∙◌, subst, inl, inr}
-use Rattle.std.specs.Prelude.{not, All, Contains, ⊤}
+use Rattle.std.proofs.Common.{◌≡◌, ℕ, Bool, true, false, ◌&&◌, List, [], ◌∷◌, map, Option, Some, None, refl, sym, ap, ◌∙◌, subst}
+use Rattle.std.specs.Prelude.{not, All}
 use Rattle.al_base.specs.declared.place.Place.{Place}
-use Rattle.al_rules.specs.Outcome.{Outcome, Good, Bad, and_then, pair, ask}
+use Rattle.al_rules.specs.Outcome.{Outcome, Good, Bad, and_then, pair}
 use Rattle.al_scope.specs.Firsts.{declaration_at}
 use Rattle.al_tree.specs.declared.expression.UnaryOp.{UnaryOp as Prefix}
 use Rattle.al_tree.specs.declared.expression.UnaryOp.TheVariants as prefix
 use Rattle.al_tree.specs.declared.expression.AssignOp.{AssignOp}
 use Rattle.al_tree.specs.declared.expression.AssignOp.TheVariants as assign
-use Rattle.al_tree.specs.declared.expression.Expr.{Expr, out-Expr, roll-Expr, fold-Expr, fold-roll-Expr, map-Expr}
-use Rattle.al_tree.specs.declared.expression.Expr.TheViews.{out-roll-Expr}
-use Rattle.al_tree.specs.declared.expression.Expr.TheFolds.{ind-Expr}
 use Rattle.al_tree.specs.declared.expression.Expr.TheOpen.{Expr-F}
-use Rattle.al_typed.specs.declared.program.Aggregate.{Aggregate as AggregateRow}
 use Rattle.al_typed.specs.declared.ty.Ty.{Ty}
 use Rattle.al_typed.specs.declared.ty.Ty.TheVariants as ty
-use Rattle.al_typed.specs.declared.expression.PrintPiece.{PrintPiece}
-use Rattle.al_typed.specs.declared.expression.TExpr.{TExpr, items-the_row-TTarget, items_hidden-the_row-TTarget-5, Row_of-TTarget, end_of-TTarget, more_of-TTarget}
+use Rattle.al_typed.specs.declared.expression.TExpr.{items-the_row-TTarget, items_hidden-the_row-TTarget-5, Row_of-TTarget, end_of-TTarget, more_of-TTarget}
 use Rattle.al_typed.specs.declared.expression.TExpr.TheBlock.{hidden-the_row-TPlace-0, hidden-the_row-TTarget-5}
 use denote.Hole.Carrier.{hidden}
 use Rattle.al_typed.specs.declared.expression.TExpr.TheVariants as expr
@@ -24,10 +19,9 @@ use Rattle.al_typed.specs.declared.expression.TPlace.{TPlace}
 use Rattle.al_typed.specs.declared.expression.TReceiver.{TReceiver}
 use Rattle.al_typed.specs.declared.expression.TTarget.{TTarget}
 use Rattle.al_typed.specs.declared.expression.TTarget.TheVariants as target
-use Rattle.al_typed.specs.Types.{is_array, is_complete, is_void, is_whole}
+use Rattle.al_typed.specs.Types.{is_array, is_complete, is_whole}
 use Rattle.al_typed.specs.Typed.{place_type, target_type, type_of}
-use Rattle.al_typed.specs.WellTyped as well
-use Rattle.al_typed.specs.WellTyped.{IsTarget, IsValue, Scope, is_small, is_sound, is_stored, rows}
+use Rattle.al_typed.specs.WellTyped.{Scope, is_small, is_sound, rows}
 use Rattle.al_typed.proofs.ValueRules as value_rules
 use Rattle.al_typed.proofs.ValueRules.{IsValue-Assign, IsValue-Call, IsValue-CallPointer, target_types_are}
 use Rattle.al_convert.specs.Same.{parts_of}
@@ -39,7 +33,7 @@ use Rattle.al_operands.specs.declared.operand.Operand.{Operand}
 use Rattle.al_operands.specs.Operands.{converted}
 use Rattle.al_operands.specs.Rules.{rule_29_is_no_array, rule_33_converts}
 use Rattle.al_operators.specs.Formats.{pieces}
-use Rattle.al_operators.specs.Operators.{binary, printed, sent, terminated}
+use Rattle.al_operators.specs.Operators.{binary, printed, terminated}
 use Rattle.al_places.specs.Places.{index, updated}
 use Rattle.al_type_nodes.specs.declared.found.Found.{Found}
 use Rattle.al_type_nodes.specs.declared.found.Found.TheVariants as found
@@ -47,30 +41,28 @@ use Rattle.al_type_nodes.specs.Uses.{dropped, operand, placed, sized}
 use Rattle.al_type_nodes.specs.Names.{named}
 use Rattle.al_type_calls.specs.declared.callee.Callee.{Callee}
 use Rattle.al_type_calls.specs.declared.callee.Callee.TheVariants as callee
-use Rattle.al_type_calls.specs.Callees.{named_callee, pointer_callee}
-use Rattle.al_type_expr.specs.declared.columns.Columns.{Columns}
+use Rattle.al_type_calls.specs.Callees.{pointer_callee}
 use Rattle.al_type_expr.specs.Leaves.{assign_node, assigned_to, character, iterator_found, nil_found, number, place_target, text_found, whole_target}
 use Rattle.al_type_expr.specs.Leaves as leaves
 use Rattle.al_type_expr.specs.Lists.{arguments, columns, each, prints, sequenced, tuple}
 use Rattle.al_type_expr.specs.Parts.{cast_to, compound, gives, is_at, member_callee, member_found, postfix_found, type_sized, unary}
-use Rattle.al_type_expr.specs.Nodes.{Aim, Node, aim, all_parts, assigned, assignment, called, dropped_of, dropped_value, found, format_call, nil_aim, node, operand_of, plain_node, print_call, step, target_rule, targets, terminate_call, tuple_aim, tuple_target, value_callee, value_of}
-use Rattle.zz.specs.Typed.{IfGood, IsFoundValue, IsOperand, IsSoundPlace, IsTyped, IsUsable}
+use Rattle.al_type_expr.specs.Nodes.{Node, aim, all_parts, assigned, assignment, called, dropped_of, format_call, nil_aim, operand_of, plain_node, print_call, step, target_rule, targets, terminate_call, tuple_aim, tuple_target}
+use Rattle.zz.specs.Typed.{IfGood, IsOperand, IsSoundPlace, IsTyped, IsUsable}
 use Rattle.zz.specs.Operands.{IsOf}
 use Rattle.zz.specs.Operators.{IsPrinted}
 use Rattle.zz.specs.Places.{IsOpenPlace}
-use Rattle.zz.specs.Nodes.{IsFound, IsFoundPlace, IsShared, Tells}
-use Rattle.zz.specs.Callees.{HasTypes, IsCallee, IsGivenBy, IsNamedCallee, IsPointerCallee}
-use Rattle.zz.specs.Expressions.{AreAimed, AreFit, EachPart, Every, ExpressionsAreSound, IsAimed, IsFit, IsNode, is_small_target}
+use Rattle.zz.specs.Nodes.{IsFound, IsShared, Tells}
+use Rattle.zz.specs.Callees.{IsCallee, IsGivenBy}
+use Rattle.zz.specs.Expressions.{AreAimed, EachPart, Every, IsAimed, IsFit, IsNode, is_small_target}
 use Rattle.zz.proofs.TypeForms.{tuple_is}
 use Rattle.zz.proofs.SameTypes.{and_both}
-use Rattle.zz.proofs.SoundTypes.{whole_after}
 use Rattle.zz.proofs.Outcomes.{after, also, asked, paired, where_good}
 use Rattle.zz.proofs.OperandsAre.{converted_is, operand_converts}
-use Rattle.zz.proofs.OperatorKinds.{negated, not_true}
+use Rattle.zz.proofs.OperatorKinds.{negated}
 use Rattle.zz.proofs.OperatorsAre.{binary_is}
 use Rattle.zz.proofs.CastsAre.{printed_is, sent_is, terminated_is}
 use Rattle.zz.proofs.PlacesAre.{both_true, index_is, updated_is}
-use Rattle.zz.proofs.NodesAre.{declared_is, dropped_is, each_passed, operand_is, placed_is, sized_is, usable_found, usable_typed, value_found}
+use Rattle.zz.proofs.NodesAre.{declared_is, dropped_is, each_passed, operand_is, placed_is, sized_is, usable_typed}
 use Rattle.zz.proofs.CalleesAre.{declared_callee_is, pointer_callee_is}
 use Rattle.zz.proofs.TargetsAre.{aimed_is, tuple_parts}
 use Rattle.zz.proofs.ExpressionLists.{AreArguments, AreColumns, arguments_are, both_hold, columns_are, each_is, prints_are, sequenced_is, tuple_is as columns_tuple}

@@ -1,10 +1,9 @@
 -- What is written as 0, nil or a tuple, and converts by the rules, converts in a well typed program.
-use Rattle.std.proofs.Common.{◌≡◌, ℕ, Bool, true, false, ◌&&◌, List, [], ◌∷◌, map, Option, Some, None, refl, sym, ap, ap₂, ◌∙◌, subst}
-use Rattle.std.specs.Prelude.{◌||◌, is_some, not}
+use Rattle.std.proofs.Common.{◌≡◌, ℕ, Bool, true, ◌&&◌, List, [], ◌∷◌, map, Option, Some, None, refl, sym, ap, ap₂, ◌∙◌, subst}
+use Rattle.std.specs.Prelude.{◌||◌, is_some}
 use Rattle.al_base.specs.declared.place.Place.{Place}
-use Rattle.al_base.specs.declared.arith.Kind.{Kind}
 use Rattle.al_base.specs.declared.arith.Kind.TheVariants as kind
-use Rattle.al_typed.specs.declared.ty.Ty.{Ty, Void, Integer, Pointer', Array', Chan', Tuple', Aggregate, Function', Row_of-Ty, end_of-Ty, more_of-Ty}
+use Rattle.al_typed.specs.declared.ty.Ty.{Ty, Void, Integer, Pointer', Array', Chan', Tuple', Aggregate, Function'}
 use Rattle.al_typed.specs.declared.ty.Ty.TheVariants as ty
 use Rattle.al_typed.specs.declared.ty.Ty.TheViews.{out-Ty}
 use Rattle.al_typed.specs.declared.ty.Ty.TheBlock.{hidden-the_row-Ty-0}
@@ -21,7 +20,7 @@ use Rattle.al_convert.specs.Kinds.{is_channel}
 use Rattle.al_convert.specs.Conversions.{converts, takes_nil, literals_convert, parts_of_literal_convert}
 use Rattle.al_convert.proofs.ConversionsAre.{converts-Other, converts-Zero, converts-Nil, converts-Tuple}
 use Rattle.zz.specs.Typed.{has_type, written_step}
-use Rattle.zz.proofs.TypeForms.{of_kind_is, pointer_is, channel_is, tuple_is, there, void_is, a_channel}
+use Rattle.zz.proofs.TypeForms.{of_kind_is, pointer_is, tuple_is, void_is, a_channel}
 use Rattle.zz.proofs.SameTypes.{and_both}
 use Rattle.zz.proofs.Conversions.{types_convert_well, each_converts, tuples_convert, pointer_converts}
 

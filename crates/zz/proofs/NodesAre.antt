@@ -1,11 +1,10 @@
 -- Names, members and their uses.
-use Rattle.std.proofs.Common.{◌≡◌, ℕ, ◌<◌, ◌^◌, ◌++◌, Bool, true, false, ◌&&◌, List, [], ◌∷◌, Option, Some, None, refl, sym, ap, ap₂, ◌∙◌, subst, inl, inr}
+use Rattle.std.proofs.Common.{◌≡◌, ℕ, ◌<◌, ◌^◌, Bool, true, false, ◌&&◌, List, [], ◌∷◌, Option, Some, None, refl, sym, ap, ap₂, ◌∙◌, subst, inl, inr}
 use Rattle.std.proofs.lemmas.List.Elements.{All-cons, All-head, All-nil, All-tail}
-use Rattle.std.specs.Prelude.{◌⊎◌, ◌||◌, not, is_some, if◌then◌else◌, All, ⊤, slice_get, option_and_then}
+use Rattle.std.specs.Prelude.{◌⊎◌, ◌||◌, not, All, slice_get, option_and_then}
 use Rattle.std.specs.Option.{unwrap_or}
 use Rattle.al_base.specs.Arith.{width_of}
 use Rattle.al_base.specs.declared.place.Place.{Place}
-use Rattle.al_rules.specs.Outcome.{Good, Bad, ask}
 use Rattle.al_tree.specs.declared.integer.Integer.{Integer}
 use Rattle.al_tree.specs.declared.constants.EnumConstant.{EnumConstant}
 use Rattle.al_scope.specs.declared.declaration.Declaration.{Declaration}
@@ -16,19 +15,15 @@ use Rattle.al_typed.specs.declared.ty.Ty.TheVariants as ty
 use Rattle.al_typed.specs.declared.ty.Ty.TheViews.{out-Ty, roll-out-Ty}
 use Rattle.al_typed.specs.declared.ty.Ty.TheOpen.{Ty-F}
 use Rattle.al_typed.specs.declared.ty.Ty.TheBlock.{hidden-the_row-Ty-0, hidden-the_row-Ty-1}
-use denote.Hole.Carrier.{hidden, out}
+use denote.Hole.Carrier.{hidden}
 use Rattle.al_typed.specs.declared.expression.TExpr.{TExpr}
 use Rattle.al_typed.specs.declared.expression.TExpr.TheVariants as expr
 use Rattle.al_typed.specs.declared.expression.TPlace.{TPlace}
 use Rattle.al_typed.specs.declared.expression.TPlace.TheVariants as place
-use Rattle.al_typed.specs.declared.program.Function.{Function as FunctionRow}
 use Rattle.al_typed.specs.Types.{is_array, is_complete, is_void, is_whole}
-use Rattle.al_typed.specs.Typed.{parameter_types, place_type, type_of}
-use Rattle.al_typed.specs.Typed as typed
-use Rattle.al_typed.specs.WellTyped.{HasAddress, IsCallable, LeadsTo, Scope, are_sound, is_sound, is_stored, passes, rows}
+use Rattle.al_typed.specs.Typed.{place_type, type_of}
+use Rattle.al_typed.specs.WellTyped.{HasAddress, LeadsTo, Scope, are_sound, is_sound, is_stored, rows}
 use Rattle.al_typed.proofs.ValueRules.{IsPlace-Member, IsPlace-PointedMember, IsValue-Constant, IsValue-Function, IsValue-MemberOf}
-use Rattle.al_convert.specs.declared.literal.Literal.{Literal}
-use Rattle.al_convert.specs.declared.literal.Literal.TheVariants as literal
 use Rattle.al_convert.specs.Same.{pointed}
 use Rattle.al_environment.specs.declared.environment.Environment.{Environment}
 use Rattle.al_environment.specs.declared.environment.Here.{Here}
@@ -37,26 +32,26 @@ use Rattle.al_environment.specs.declared.environment.NamedMember.{NamedMember}
 use Rattle.al_environment.specs.declared.environment.Round.{Round}
 use Rattle.al_environment.specs.declared.environment.Signature.{Signature}
 use Rattle.al_environment.specs.declared.environment.Variable.{Variable}
-use Rattle.al_environment.specs.Lookups.{function, function_named, global, local, member_named, round}
+use Rattle.al_environment.specs.Lookups.{function, global, local, member_named, round}
 use Rattle.al_operands.specs.declared.operand.Operand.{Operand}
 use Rattle.al_operands.specs.Operands.{plain}
-use Rattle.al_operators.specs.Operators.{size_of_value, used}
-use Rattle.al_places.specs.Places.{address, loaded, size_of_place}
+use Rattle.al_operators.specs.Operators.{used}
+use Rattle.al_places.specs.Places.{address, loaded}
 use Rattle.al_type_nodes.specs.declared.found.Found.{Found}
 use Rattle.al_type_nodes.specs.declared.found.Found.TheVariants as found
 use Rattle.al_type_nodes.specs.Rules.{rule_5_is_defined, rule_10_is_open, rule_19_is_shared, rule_58_is_read}
-use Rattle.al_type_nodes.specs.Uses.{address_of, addressed, dropped, loaded_operand, operand, place_of, placed, sized, used_operand, value, written_as}
+use Rattle.al_type_nodes.specs.Uses.{address_of, addressed, dropped, loaded_operand, operand, place_of, placed, sized, used_operand, value}
 use Rattle.al_type_nodes.specs.Names.{constant_found, declared, declared_as, defined_function, function_found, function_value, global_found, integer_found, local_found, number_of, outer_found, round_found}
 use Rattle.al_type_nodes.specs.Members.{aggregate_at, aggregate_of, arrow, arrow_value, dot, dot_operand, dot_place, dot_value, function_in, member_behind, member_in, member_of_place, member_of_value, place_dot, place_member, pointed_member, value_arrow, value_dot, value_member, whole}
 use Rattle.zz.specs.Typed.{IfGood, IsFoundValue, IsOperand, IsSoundPlace, IsTyped, IsUsable, has_type}
-use Rattle.zz.specs.Nodes.{Calls, IsFound, IsFoundPlace, IsGlobalOf, IsLocalPlace, IsMemberOf, IsShared, NodesAreSound, Tells, is_passed}
+use Rattle.zz.specs.Nodes.{Calls, IsFound, IsGlobalOf, IsLocalPlace, IsShared, NodesAreSound, Tells, is_passed}
 use Rattle.zz.proofs.TypeForms.{pointer_is, some_is, there}
 use Rattle.zz.proofs.SameTypes.{and_both}
-use Rattle.zz.proofs.SoundTypes.{sound-Pointer, whole-Integer, whole-Pointer}
+use Rattle.zz.proofs.SoundTypes.{sound-Pointer, whole-Pointer}
 use Rattle.zz.proofs.Literals.{has_type-Other}
 use Rattle.zz.proofs.Outcomes.{after, also, asked, asked_twice}
 use Rattle.zz.proofs.OperandsAre.{plain_is, plain_usable}
-use Rattle.zz.proofs.OperatorKinds.{negated, not_true}
+use Rattle.zz.proofs.OperatorKinds.{negated}
 use Rattle.zz.proofs.OperatorsAre.{integer_usable}
 use Rattle.zz.proofs.CastsAre.{size_of_value_is, used_is}
 use Rattle.zz.proofs.PlacesAre.{address_is, both_true, loaded_is, size_of_place_is}

@@ -1,23 +1,18 @@
 -- Nodes with parts that are known.
-use Rattle.std.proofs.Common.{◌≡◌, ℕ, ◌<◌, ◌≤◌, ◌^◌, Bool, true, false, ◌&&◌, List, [], ◌∷◌, map, length, Option, Some, None, refl, sym, ap, ap₂, ◌∙◌, subst, inl, inr, arith}
-use Rattle.std.specs.Prelude.{◌⊎◌, ◌==◌, nat_lt, if◌then◌else◌, not, ⊤}
+use Rattle.std.proofs.Common.{◌≡◌, ℕ, ◌<◌, ◌^◌, Bool, true, false, length, Option, Some, None, refl, sym, ap, ◌∙◌, subst, inl, arith}
+use Rattle.std.specs.Prelude.{◌==◌, nat_lt, if◌then◌else◌}
 use Rattle.std.proofs.lemmas.Bool.{eqb-true, ltb-true}
 use Rattle.al_base.specs.Arith.{width_of}
-use Rattle.al_base.specs.declared.arith.Kind.{Kind}
 use Rattle.al_base.specs.declared.arith.Kind.TheVariants as kind
 use Rattle.al_base.specs.declared.place.Place.{Place}
-use Rattle.al_rules.specs.Outcome.{Outcome, Good, Bad, and_then, pair, ask}
+use Rattle.al_rules.specs.Outcome.{Outcome, Good, and_then}
 use Rattle.al_lex.specs.Values.{kind_of_value}
 use Rattle.al_tree.specs.declared.expression.UnaryOp.{UnaryOp as Prefix}
 use Rattle.al_tree.specs.declared.expression.UnaryOp.TheVariants as prefix
 use Rattle.al_tree.specs.declared.expression.PostfixOp.{PostfixOp}
 use Rattle.al_tree.specs.declared.expression.PostfixOp.TheVariants as postfix
-use Rattle.al_tree.specs.declared.expression.BinaryOp.{BinaryOp}
-use Rattle.al_tree.specs.declared.expression.AssignOp.{AssignOp}
-use Rattle.al_tree.specs.declared.expression.AssignOp.TheVariants as assign
 use Rattle.al_tree.specs.declared.expression.Access.{Access}
 use Rattle.al_tree.specs.declared.expression.Access.TheVariants as access
-use Rattle.al_typed.specs.declared.program.Aggregate.{Aggregate as AggregateRow}
 use Rattle.al_typed.specs.declared.ty.Ty.{Ty}
 use Rattle.al_typed.specs.declared.ty.Ty.TheVariants as ty
 use Rattle.al_typed.specs.declared.expression.UnaryOp.TheVariants as unary_op
@@ -25,38 +20,34 @@ use Rattle.al_typed.specs.declared.expression.StepOp.TheVariants as step_op
 use Rattle.al_typed.specs.declared.expression.TExpr.{TExpr}
 use Rattle.al_typed.specs.declared.expression.TExpr.TheVariants as expr
 use Rattle.al_typed.specs.declared.expression.TPlace.{TPlace}
-use Rattle.al_typed.specs.Types.{byte_pointer, int, is_void, is_void_at, is_whole, void_pointer}
-use Rattle.al_typed.specs.Typed.{place_type, type_of}
-use Rattle.al_typed.specs.WellTyped.{IsValue, Scope, is_sound, rows}
+use Rattle.al_typed.specs.Types.{byte_pointer, int, is_void, is_void_at, void_pointer}
+use Rattle.al_typed.specs.WellTyped.{Scope, is_sound, rows}
 use Rattle.al_typed.proofs.ValueRules.{IsValue-Constant, IsValue-Iterator, IsValue-Nil, IsValue-Text}
-use Rattle.al_convert.specs.declared.literal.Literal.{Literal}
 use Rattle.al_convert.specs.declared.literal.Literal.TheVariants as literal
-use Rattle.al_convert.specs.Same.{is_of_kind, is_of_kind_at, passes, pointed, same_kind}
+use Rattle.al_convert.specs.Same.{is_of_kind, is_of_kind_at, passes}
 use Rattle.al_environment.specs.declared.environment.Environment.{Environment}
 use Rattle.al_environment.specs.declared.environment.Here.{Here}
 use Rattle.al_operands.specs.declared.operand.Operand.{Operand}
-use Rattle.al_operators.specs.Operators.{can_receive, can_send, cast, complement, negation, received, signed, size_of_type}
-use Rattle.al_places.specs.Places.{indirection, stepped, updated, zeroed}
+use Rattle.al_operators.specs.Operators.{can_receive, can_send, cast, complement, negation, received, signed}
+use Rattle.al_places.specs.Places.{indirection, stepped, zeroed}
 use Rattle.al_type_nodes.specs.declared.found.Found.{Found}
-use Rattle.al_type_nodes.specs.declared.found.Found.TheVariants as found
-use Rattle.al_type_nodes.specs.Uses.{addressed, operand, place_of, placed, value, written_as}
-use Rattle.al_type_nodes.specs.Members.{arrow, dot}
-use Rattle.al_type_calls.specs.declared.callee.Callee.{Callee}
-use Rattle.al_type_calls.specs.Callees.{arrow_callee, dot_callee}
+use Rattle.al_type_nodes.specs.Uses.{addressed, operand, place_of, placed, value}
+use Rattle.al_type_nodes.specs.Members.{arrow}
+use Rattle.al_type_calls.specs.Callees.{arrow_callee}
 use Rattle.al_type_expr.specs.Leaves.{character, iterator_found, nil_found, number, text_found, zero}
-use Rattle.al_type_expr.specs.Parts.{cast_of, cast_to, compound, gives, is_at, member_callee, member_found, postfix_found, type_sized, unary}
-use Rattle.zz.specs.Typed.{IfGood, IsFoundValue, IsOperand, IsSoundPlace, IsTyped, IsUsable, has_type}
+use Rattle.al_type_expr.specs.Parts.{cast_of, cast_to, gives, is_at, member_callee, member_found, postfix_found, type_sized, unary}
+use Rattle.zz.specs.Typed.{IfGood, IsOperand, IsSoundPlace, IsTyped, IsUsable, has_type}
 use Rattle.zz.specs.Operands.{IsOf}
 use Rattle.zz.specs.Places.{IsOpenPlace}
-use Rattle.zz.specs.Nodes.{IsFound, IsFoundPlace, IsShared, Tells}
+use Rattle.zz.specs.Nodes.{IsFound, IsShared, Tells}
 use Rattle.zz.specs.Callees.{IsCallee}
 use Rattle.zz.proofs.TypeForms.{out_at-Integer, pointed-Pointer, out_at-Void}
-use Rattle.zz.proofs.SoundTypes.{whole-Integer, whole-Pointer, sound-Pointer}
+use Rattle.zz.proofs.SoundTypes.{whole-Pointer, sound-Pointer}
 use Rattle.zz.proofs.Literals.{has_type-Nil, has_type-Other, has_type-Zero}
-use Rattle.zz.proofs.Outcomes.{after, also, paired}
+use Rattle.zz.proofs.Outcomes.{after, also}
 use Rattle.zz.proofs.OperatorsAre.{integer_usable, negation_is, signed_is, complement_is}
 use Rattle.zz.proofs.CastsAre.{can_receive_is, can_send_is, cast_is, received_is, size_of_type_is}
-use Rattle.zz.proofs.PlacesAre.{indirection_is, stepped_is, updated_is, zeroed_is}
+use Rattle.zz.proofs.PlacesAre.{indirection_is, stepped_is, zeroed_is}
 use Rattle.zz.proofs.NodesAre.{addressed_is, arrow_is, dot_is, operand_is, placed_is, usable_found, usable_typed, value_found}
 use Rattle.zz.proofs.CalleesAre.{arrow_callee_is, dot_callee_is}
 

@@ -1,6 +1,6 @@
 -- Kinds of arithmetic, and types that are converted to them.
-use Rattle.std.proofs.Common.{◌≡◌, ℕ, Bool, true, false, ◌&&◌, Option, Some, None, refl, sym, ap, ◌∙◌, subst, inl, inr}
-use Rattle.std.specs.Prelude.{◌⊎◌, ◌||◌, not, is_some, if◌then◌else◌}
+use Rattle.std.proofs.Common.{◌≡◌, ℕ, Bool, true, false, Option, Some, None, refl, sym, ap, ◌∙◌, inl, inr}
+use Rattle.std.specs.Prelude.{◌⊎◌, ◌||◌, not, is_some}
 use Rattle.al_base.specs.declared.arith.Kind.{Kind}
 use Rattle.al_base.specs.declared.arith.Kind.TheVariants as kind
 use Rattle.al_base.specs.declared.place.Place.{Place}
@@ -9,7 +9,7 @@ use Rattle.al_typed.specs.declared.ty.Ty.TheVariants as ty
 use Rattle.al_typed.specs.declared.ty.Ty.TheViews.{out-Ty}
 use Rattle.al_typed.specs.declared.ty.Ty.TheBlock.{hidden-the_row-Ty-0}
 use denote.Hole.Carrier.{hidden, out}
-use Rattle.al_typed.specs.Types.{promoted, void_pointer, is_scalar}
+use Rattle.al_typed.specs.Types.{promoted, void_pointer}
 use Rattle.al_typed.specs.WellTyped as well
 use Rattle.al_typed.specs.WellTyped.{is_word}
 use Rattle.al_convert.specs.declared.literal.Literal.{Literal, roll-Literal}
@@ -17,16 +17,12 @@ use Rattle.al_convert.specs.declared.literal.Literal.TheViews.{out-Literal, roll
 use Rattle.al_convert.specs.declared.literal.Literal.TheOpen.{Literal-F}
 use Rattle.al_convert.specs.declared.literal.Literal.TheVariants as literal
 use Rattle.al_convert.specs.Same.{same, passes, pointed}
-use Rattle.al_convert.specs.Kinds.{is_integer, is_channel, kind_of, kind_at}
-use Rattle.al_convert.specs.Conversions.{type_converts}
+use Rattle.al_convert.specs.Kinds.{is_integer, kind_of, kind_at}
 use Rattle.al_convert.proofs.SameIs.{same-Pointer}
-use Rattle.al_operands.specs.declared.operand.Operand.{Operand}
-use Rattle.al_operands.specs.Rules.{is_nil, is_nil_at, is_pointer, is_address_sized, is_channel_or_nil, are_ordered}
+use Rattle.al_operands.specs.Rules.{is_nil, is_nil_at}
 use Rattle.al_operands.specs.Operands.{number_kind, promoted_kind, arithmetic_kind}
-use Rattle.al_typed.specs.Typed.{type_of}
-use Rattle.zz.specs.Typed.{IsOperand, has_type}
-use Rattle.zz.proofs.TypeForms.{a_channel, a_pointer, an_integer, kind_of-Integer, of_kind_is, out_at-Pointer, out_at-Chan, pointer_is}
-use Rattle.zz.proofs.SameTypes.{and_both}
+use Rattle.zz.specs.Typed.{has_type}
+use Rattle.zz.proofs.TypeForms.{an_integer, out_at-Pointer, out_at-Chan, pointer_is}
 use Rattle.zz.proofs.SoundTypes.{promoted_twice, promoted-common}
 use Rattle.zz.proofs.Literals.{has_type-Nil, nil_type}
 

@@ -1,6 +1,6 @@
 -- Operators on integers, on pointers and on conditions.
-use Rattle.std.proofs.Common.{◌≡◌, ℕ, Bool, true, false, ◌&&◌, List, Option, Some, None, refl, sym, ap, ap₂, ◌∙◌, subst, inl, inr}
-use Rattle.std.specs.Prelude.{◌⊎◌, ◌||◌, not, is_some, if◌then◌else◌}
+use Rattle.std.proofs.Common.{◌≡◌, Bool, true, false, ◌&&◌, refl, sym, ap, ap₂, ◌∙◌, inl, inr}
+use Rattle.std.specs.Prelude.{◌||◌, not, if◌then◌else◌}
 use Rattle.al_base.specs.declared.arith.Kind.{Kind}
 use Rattle.al_base.specs.declared.arith.Kind.TheVariants as kind
 use Rattle.al_base.specs.declared.place.Place.{Place}
@@ -18,30 +18,28 @@ use Rattle.al_typed.specs.declared.expression.Movement.{Movement}
 use Rattle.al_typed.specs.declared.expression.Movement.TheVariants as movement
 use Rattle.al_typed.specs.declared.expression.TExpr.{TExpr}
 use Rattle.al_typed.specs.declared.expression.TExpr.TheVariants as expr
-use Rattle.al_typed.specs.declared.program.Aggregate.{Aggregate as AggregateRow}
-use Rattle.al_typed.specs.Types.{int, promoted, points_to_complete, is_scalar}
+use Rattle.al_typed.specs.Types.{int, promoted, points_to_complete}
 use Rattle.al_typed.specs.Typed.{type_of}
 use Rattle.al_typed.specs.WellTyped as well
 use Rattle.al_typed.specs.WellTyped.{IsValue, Scope, is_sound, result_kind, rows}
 use Rattle.al_typed.proofs.ValueRules.{IsValue-Binary, IsValue-Unary, IsValue-Not, IsValue-Logical, IsValue-Move, IsValue-Difference}
-use Rattle.al_convert.specs.Same.{same, pointed}
+use Rattle.al_convert.specs.Same.{same}
 use Rattle.al_convert.specs.Kinds.{is_integer, is_channel}
 use Rattle.al_convert.specs.Conversions.{type_converts}
 use Rattle.al_operands.specs.declared.operand.Operand.{Operand}
-use Rattle.al_operands.specs.Rules as rule
 use Rattle.al_operands.specs.Rules.{is_nil, is_pointer, is_channel_or_nil, are_ordered, rule_24_adds, rule_24_subtracts, rule_24_multiplies, rule_24_signs, rule_25_has_integers, rule_25_complements, rule_26_orders, rule_26_equates, rule_27_is_condition}
 use Rattle.al_operands.specs.Operands.{converted, in_kind, promoted_kind, arithmetic_kind, plain, plains}
-use Rattle.al_operators.specs.Operators.{addition, added, binary, bitwise, combined, compared, compared_kind, complement, complement_value, condition, conditions, decision, difference, equality, logical, moved, multiplication, multiplied, negation, operated, operated_in, order, promoted_by, remaining, shift, shifted, shifted_by, signed, signed_in, signed_value, subtracted, subtraction, sum}
+use Rattle.al_operators.specs.Operators.{addition, added, binary, bitwise, combined, compared, complement, complement_value, condition, conditions, decision, difference, equality, logical, moved, multiplication, multiplied, negation, operated, operated_in, order, promoted_by, remaining, shift, shifted, shifted_by, signed, signed_in, signed_value, subtracted, subtraction, sum}
 use Rattle.zz.specs.Typed.{IfGood, IsOperand, IsUsable}
-use Rattle.zz.specs.Operands.{AreUsable, IsOf}
+use Rattle.zz.specs.Operands.{AreUsable}
 use Rattle.zz.specs.Operators.{IsAsked, OfOperand, OfOperands, OfValues}
-use Rattle.zz.proofs.TypeForms.{a_channel, a_pointer, an_integer, a_complete_pointer}
+use Rattle.zz.proofs.TypeForms.{a_channel, a_pointer, a_complete_pointer}
 use Rattle.zz.proofs.SameTypes.{and_both}
 use Rattle.zz.proofs.SoundTypes.{whole-Integer}
 use Rattle.zz.proofs.Conversions.{pointer_after, pointer_converts}
-use Rattle.zz.proofs.Outcomes.{after, also, asked, paired}
+use Rattle.zz.proofs.Outcomes.{after, asked, paired}
 use Rattle.zz.proofs.OperandsAre.{converted_is, in_kind_is, plain_usable, plains_are}
-use Rattle.zz.proofs.OperatorKinds.{AreCompared, IsAddress, address_converts, address_no_integer, either, integer_converts, negated, nil_operand, not_true, promoted-arithmetic_kind, promoted-promoted_kind, same_pointer}
+use Rattle.zz.proofs.OperatorKinds.{AreCompared, IsAddress, address_converts, address_no_integer, either, integer_converts, nil_operand, not_true, promoted-arithmetic_kind, promoted-promoted_kind, same_pointer}
 
 -- what has the type of an integer is usable, where it is well typed
 pub integer_usable : (s : Scope) (k : Kind) (e : TExpr) → IsValue s e → type_of e ≡ ty.Integer k → IsUsable s e

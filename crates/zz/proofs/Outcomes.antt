@@ -1,8 +1,6 @@
 -- What holds of what outcomes give.
-use Rattle.std.proofs.Common.{◌≡◌, ℕ, Bool, true, false, List, [], ◌∷◌, ◌++◌, refl}
-use Rattle.std.specs.Prelude.{⊤}
+use Rattle.std.proofs.Common.{◌≡◌, ℕ, Bool, true, false, ◌++◌, refl}
 use Rattle.al_base.specs.declared.place.Place.{Place}
-use Rattle.al_rules.specs.declared.fault.TypeFault.{TypeFault}
 use Rattle.al_rules.specs.Outcome.{Outcome, Good, Bad, ask, judge, and_then, both, pair}
 use Rattle.zz.specs.Typed.{IfGood}
 

@@ -1,28 +1,25 @@
 -- What is done with places, and what makes a place.
-use Rattle.std.proofs.Common.{◌≡◌, ℕ, Bool, true, false, ◌&&◌, List, Option, Some, None, refl, sym, ap, ap₂, ◌∙◌, subst, inl, inr}
-use Rattle.std.specs.Prelude.{◌⊎◌, ◌||◌, not, is_some, if◌then◌else◌, ⊤}
+use Rattle.std.proofs.Common.{◌≡◌, Bool, true, false, ◌&&◌, List, Option, Some, None, refl, sym, ap, ap₂, ◌∙◌, inl, inr}
+use Rattle.std.specs.Prelude.{◌||◌, not, is_some, if◌then◌else◌}
 use Rattle.std.specs.Option.{unwrap_or}
 use Rattle.al_base.specs.declared.arith.Kind.{Kind}
 use Rattle.al_base.specs.declared.arith.Kind.TheVariants as kind
 use Rattle.al_base.specs.declared.place.Place.{Place}
 use Rattle.al_tree.specs.declared.expression.BinaryOp.{BinaryOp as Written}
-use Rattle.al_tree.specs.declared.expression.BinaryOp.TheVariants as written
 use Rattle.al_typed.specs.declared.program.Aggregate.{Aggregate as AggregateRow}
 use Rattle.al_typed.specs.declared.ty.Ty.{Ty}
 use Rattle.al_typed.specs.declared.ty.Ty.TheVariants as ty
-use Rattle.al_typed.specs.declared.ty.Ty.TheViews.{out-Ty, roll-out-Ty}
+use Rattle.al_typed.specs.declared.ty.Ty.TheViews.{out-Ty}
 use Rattle.al_typed.specs.declared.ty.Ty.TheOpen.{Ty-F}
 use Rattle.al_typed.specs.declared.expression.BinaryOp.{BinaryOp}
 use Rattle.al_typed.specs.declared.expression.BinaryOp.TheVariants as op
-use Rattle.al_typed.specs.declared.expression.Change.{Change}
 use Rattle.al_typed.specs.declared.expression.Change.TheVariants as change
 use Rattle.al_typed.specs.declared.expression.StepOp.{StepOp}
 use Rattle.al_typed.specs.declared.expression.TExpr.{TExpr}
 use Rattle.al_typed.specs.declared.expression.TExpr.TheVariants as expr
 use Rattle.al_typed.specs.declared.expression.TPlace.{TPlace}
-use Rattle.al_typed.specs.declared.expression.TPlace.TheVariants as place
 use Rattle.al_typed.specs.Types.{int, is_array, is_array_at, is_complete, is_whole, points_to_complete, promoted}
-use Rattle.al_typed.specs.Typed.{place_type, target_type, type_of}
+use Rattle.al_typed.specs.Typed.{place_type, type_of}
 use Rattle.al_typed.specs.WellTyped as well
 use Rattle.al_typed.specs.WellTyped.{Changes, HasAddress, IsPlace, IsTarget, IsValue, Scope, is_arithmetic, is_integer_at, is_sound, is_stepped, rows}
 use Rattle.al_typed.proofs.ValueRules.{IsPlace-Element, IsPlace-Pointed, IsTarget-Into, IsValue-Address, IsValue-Assign, IsValue-Decay, IsValue-Load, IsValue-SizeofPlace, IsValue-Step, IsValue-Update, IsValue-Zerox}
@@ -32,9 +29,9 @@ use Rattle.al_convert.specs.Kinds.{is_integer, items_at, items_of, kind_at, kind
 use Rattle.al_operands.specs.declared.operand.Operand.{Operand}
 use Rattle.al_operands.specs.Rules.{is_aimed_at, moves, rule_7_is_complete, rule_28_steps, rule_29_is_no_array, rule_30_points, rule_31_indexes, rule_33_converts, rule_34_updates, rule_39_has_size}
 use Rattle.al_operands.specs.Operands.{arithmetic_kind, converted, in_kind, plain, plains, promoted_kind}
-use Rattle.al_places.specs.Places.{address, aimed, apply_in, assign_node, assigned, assignment, changed, changed_in, element, element_node, index, indexed, indirection, into, is_back, is_shift, load, loaded, operator, operator_kind, pointed_by, pointed_node, pointer_to, read, read_as, size_of_place, step_node, stepped, update, updated, updated_by, updated_with, zero_node, zeroed}
+use Rattle.al_places.specs.Places.{address, aimed, apply_in, assigned, assignment, changed_in, element, index, indexed, indirection, into, is_back, is_shift, loaded, operator, operator_kind, pointed_by, pointed_node, pointer_to, read, read_as, size_of_place, step_node, stepped, update, updated, updated_by, updated_with, zero_node, zeroed}
 use Rattle.zz.specs.Typed.{IfGood, IsOperand, IsSoundPlace, IsUsable}
-use Rattle.zz.specs.Operands.{AreUsable, IsOf}
+use Rattle.zz.specs.Operands.{AreUsable}
 use Rattle.zz.specs.Places.{IsOpenPlace, PlacesAreSound}
 use Rattle.zz.proofs.TypeForms.{a_complete_pointer, an_integer, array_is, pointed-Pointer, pointer_is}
 use Rattle.zz.proofs.SameTypes.{and_both}

@@ -1,6 +1,6 @@
 -- Sound types, and types of values: their parts, and what they are converted to.
-use Rattle.std.proofs.Common.{◌≡◌, ℕ, Bool, true, false, ◌&&◌, List, [], ◌∷◌, map, Option, Some, None, refl, sym, ap, ap₂, ◌∙◌, subst}
-use Rattle.std.specs.Prelude.{◌||◌, is_some, not, nat_le, nat_lt, if◌then◌else◌}
+use Rattle.std.proofs.Common.{◌≡◌, ℕ, Bool, true, false, ◌&&◌, List, [], ◌∷◌, Option, Some, None, refl, sym, ap, ap₂, ◌∙◌}
+use Rattle.std.specs.Prelude.{nat_lt, if◌then◌else◌}
 use Rattle.std.specs.List.{list_all}
 use Rattle.std.proofs.lemmas.Bool.{eqb-true, eq-eqb}
 use Rattle.al_base.specs.declared.arith.Kind.{Kind}
@@ -9,15 +9,15 @@ use Rattle.al_typed.specs.declared.program.Aggregate.{Aggregate as AggregateRow}
 use Rattle.al_typed.specs.declared.ty.Ty.{Ty, Void, Integer, Pointer', Array', Chan', Tuple', Aggregate, Function', Row_of-Ty, end_of-Ty, more_of-Ty, items-the_row-Ty}
 use Rattle.al_typed.specs.declared.ty.Ty.TheVariants as ty
 use Rattle.al_typed.specs.declared.ty.Ty.TheViews.{out-Ty}
-use Rattle.al_typed.specs.declared.ty.Ty.TheBlock.{hidden-the_row-Ty-0, hidden-the_row-Ty-1, shown-the_row-Ty-0}
-use denote.Hole.Carrier.{hidden, out, shown}
-use Rattle.al_typed.specs.TyFold.{fold_ty, fold_types}
-use Rattle.al_typed.specs.Types.{is_void, is_scalar, is_array, is_complete, is_complete_step, is_whole, promoted, points_to_complete, points_to_complete_at}
+use Rattle.al_typed.specs.declared.ty.Ty.TheBlock.{hidden-the_row-Ty-0, hidden-the_row-Ty-1}
+use denote.Hole.Carrier.{hidden, out}
+use Rattle.al_typed.specs.TyFold.{fold_types}
+use Rattle.al_typed.specs.Types.{is_void, is_array, is_complete, is_complete_step, is_whole, promoted}
 use Rattle.al_typed.specs.WellTyped as well
 use Rattle.al_typed.specs.WellTyped.{are_sound, is_small, is_sound, is_word}
 use Rattle.al_convert.specs.Kinds.{common, rank}
 use Rattle.al_convert.specs.Same.{same, same_list, are_same, passes, pointed, parts_of, chan_element}
-use Rattle.al_convert.proofs.SameIs.{same-Void, same-Integer, same-Pointer, same-Array, same-Chan, same-Tuple, same-Aggregate, same-Function}
+use Rattle.al_convert.proofs.SameIs.{same-Integer, same-Pointer, same-Chan, same-Tuple, same-Aggregate}
 use Rattle.zz.proofs.TypeForms.{aggregate_is, any_channel_is, of_kind_is, pointer_is, tuple_is}
 use Rattle.zz.proofs.SameTypes.{and_both, row_tuple_is}
 use Rattle.zz.proofs.Conversions.{channel_converts, each_converts, pointer_converts, tuples_convert}

@@ -1,9 +1,7 @@
 -- What stands on the left of `=`.
-use Rattle.std.proofs.Common.{◌≡◌, ℕ, Bool, true, false, ◌&&◌, List, [], ◌∷◌, map, Option, Some, None, refl, sym, ap, ap₂, ◌∙◌, subst}
-use Rattle.std.specs.Prelude.{not, ⊤}
-use Rattle.al_base.specs.declared.place.Place.{Place}
+use Rattle.std.proofs.Common.{◌≡◌, true, false, ◌&&◌, List, [], ◌∷◌, refl, sym, ap, ap₂, ◌∙◌}
 use Rattle.al_typed.specs.declared.program.Aggregate.{Aggregate as AggregateRow}
-use Rattle.al_typed.specs.declared.ty.Ty.{Ty, Void, Integer, Pointer', Array', Chan', Tuple', Aggregate, Function', Row_of-Ty, end_of-Ty, more_of-Ty, items-the_row-Ty, items_hidden-the_row-Ty-1}
+use Rattle.al_typed.specs.declared.ty.Ty.{Ty, Void, Tuple', items-the_row-Ty}
 use Rattle.al_typed.specs.declared.ty.Ty.TheVariants as ty
 use Rattle.al_typed.specs.declared.ty.Ty.TheViews.{out-Ty}
 use Rattle.al_typed.specs.declared.ty.Ty.TheBlock.{hidden-the_row-Ty-1}
@@ -11,18 +9,17 @@ use denote.Hole.Carrier.{out}
 use Rattle.al_typed.specs.declared.expression.TExpr.{Row_of-TTarget, end_of-TTarget, more_of-TTarget}
 use Rattle.al_typed.specs.declared.expression.TTarget.{TTarget, Dropped, Parts'}
 use Rattle.al_typed.specs.ExpressionForms as form
-use Rattle.al_typed.specs.Types.{is_array, is_complete, is_whole}
-use Rattle.al_typed.specs.Typed.{place_type, target_type, target_types}
+use Rattle.al_typed.specs.Types.{is_complete, is_whole}
+use Rattle.al_typed.specs.Typed.{target_type, target_types}
 use Rattle.al_typed.specs.WellTyped as well
 use Rattle.al_typed.specs.WellTyped.{AreTargets, IsTarget, Scope, are_sound, is_small, is_sound, is_stored, is_word, rows}
-use Rattle.zz.specs.Typed.{IsSoundPlace}
 use Rattle.zz.specs.Expressions.{AreAimed, IsAimed, are_small_targets, is_small_target}
 use Rattle.zz.proofs.SameTypes.{and_both, row_tuple_is}
 use Rattle.zz.proofs.SoundTypes.{whole_after}
 use Rattle.zz.proofs.Conversions.{each_converts, tuples_convert}
 use Rattle.zz.proofs.OperatorKinds.{not_true}
 use Rattle.zz.proofs.PlacesAre.{both_true}
-use Rattle.zz.proofs.NodesAre.{each_passed, parameters_passed, row_passed}
+use Rattle.zz.proofs.NodesAre.{each_passed, parameters_passed}
 
 -- what is converted to a tuple is a tuple
 tuple_before : (a : Ty) (ts : List Ty) → well.converts a (ty.Tuple ts) ≡ true → (xs : List Ty) × (a ≡ ty.Tuple xs)

@@ -1,15 +1,14 @@
 -- Trees of expressions, by their parts.
-use Rattle.std.proofs.Common.{◌≡◌, ℕ, List, [], ◌∷◌, map, refl, sym, ap, ◌∙◌, subst}
-use Rattle.std.specs.Prelude.{Contains, ⊤}
-use Rattle.al_tree.specs.declared.expression.Expr.{Expr, out-Expr, roll-Expr, fold-Expr, fold-roll-Expr, map-Expr}
+use Rattle.std.proofs.Common.{◌≡◌, List, [], ◌∷◌, map, sym, subst}
+use Rattle.std.specs.Prelude.{Contains}
+use Rattle.al_tree.specs.declared.expression.Expr.{Expr, out-Expr, roll-Expr, fold-roll-Expr, map-Expr}
 use Rattle.al_tree.specs.declared.expression.Expr.TheViews.{out-roll-Expr}
 use Rattle.al_tree.specs.declared.expression.Expr.TheFolds.{ind-Expr}
 use Rattle.al_tree.specs.declared.expression.Expr.TheOpen.{Expr-F}
 use Rattle.al_typed.specs.WellTyped.{Scope}
 use Rattle.al_environment.specs.declared.environment.Environment.{Environment}
 use Rattle.al_environment.specs.declared.environment.Here.{Here}
-use Rattle.al_type_expr.specs.Nodes.{Node, dropped_value, node, step, value_of}
-use Rattle.zz.specs.Typed.{IfGood, IsOperand, IsTyped}
+use Rattle.al_type_expr.specs.Nodes.{Node, node, step}
 use Rattle.zz.specs.Nodes.{Tells}
 use Rattle.zz.specs.Expressions.{AreFit, EachPart, Every, ExpressionsAreSound, IsFit, IsNode, OfTrees}
 use Rattle.zz.proofs.ExpressionsAre.{dropped_of_is, operand_of_is, step_is}

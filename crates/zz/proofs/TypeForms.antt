@@ -1,5 +1,5 @@
 -- What a type is whose kind, target, element or parts are known.
-use Rattle.std.proofs.Common.{◌≡◌, ℕ, Bool, true, false, ◌==◌, ◌&&◌, if◌then◌else◌, List, Option, Some, None, refl, sym, ap, ◌∙◌}
+use Rattle.std.proofs.Common.{◌≡◌, ℕ, Bool, true, false, ◌==◌, if◌then◌else◌, List, Option, Some, None, refl, sym, ap, ◌∙◌}
 use Rattle.std.proofs.lemmas.Bool.{eqb-true}
 use Rattle.std.specs.Prelude.{is_some}
 use Rattle.al_base.specs.declared.arith.Kind.{Kind}
@@ -8,9 +8,9 @@ use Rattle.al_typed.specs.declared.ty.Ty.{Ty, roll-Ty}
 use Rattle.al_typed.specs.declared.ty.Ty.TheOpen.{Ty-F}
 use Rattle.al_typed.specs.declared.ty.Ty.TheVariants as ty
 use Rattle.al_typed.specs.declared.ty.Ty.TheViews.{out-Ty, roll-out-Ty, out-roll-Ty}
-use Rattle.al_typed.specs.Types.{is_void, is_void_at, points_to_complete, points_to_complete_at, is_complete, is_scalar, is_scalar_at}
+use Rattle.al_typed.specs.Types.{is_void, is_void_at, points_to_complete, points_to_complete_at, is_complete}
 use Rattle.al_typed.specs.declared.program.Aggregate.{Aggregate as AggregateRow}
-use Rattle.al_convert.specs.Same.{same_kind, is_of_kind, is_of_kind_at, is_aggregate, is_aggregate_at, parts_of, parts_at, pointed, pointed_at, chan_element, chan_at, is_capacity, array_element, array_at, returns_of, returns_at, parameters_of, parameters_at}
+use Rattle.al_convert.specs.Same.{same_kind, is_of_kind, is_of_kind_at, is_aggregate, is_aggregate_at, parts_of, parts_at, pointed, pointed_at, chan_element, chan_at, array_element, array_at, returns_of, returns_at, parameters_of, parameters_at}
 use Rattle.al_convert.specs.Kinds.{kind_of, kind_at, is_integer, element_of, element_at, is_channel, items_of, items_at}
 use Rattle.al_operands.specs.Rules.{is_pointer}
 

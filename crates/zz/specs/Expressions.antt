@@ -1,8 +1,7 @@
 -- What a tree of an expression gives is well typed, where its numbers have room, the types that are written in it are sound, its tuples
 -- are no larger than types may be, and the locals whose addresses it takes are shared.
-use Rattle.std.specs.Prelude.{◌≡◌, ℕ, ◌<◌, ◌^◌, Bool, true, false, ◌&&◌, Contains, List, [], ◌∷◌, map, length, Option, Some, None, ⊤}
+use Rattle.std.specs.Prelude.{◌≡◌, ℕ, ◌<◌, ◌^◌, Bool, true, false, ◌&&◌, Contains, List, [], ◌∷◌, map, length, Some, ⊤}
 use Rattle.al_base.specs.declared.place.Place.{Place}
-use Rattle.al_rules.specs.Outcome.{Outcome}
 use Rattle.al_tree.specs.declared.expression.UnaryOp.TheVariants as prefix
 use Rattle.al_tree.specs.declared.expression.AssignOp.TheVariants as assign
 use Rattle.al_tree.specs.declared.expression.Expr.{Expr, out-Expr, map-Expr}
@@ -21,10 +20,8 @@ use Rattle.al_environment.specs.declared.environment.Environment.{Environment}
 use Rattle.al_environment.specs.declared.environment.Here.{Here}
 use Rattle.al_environment.specs.Firsts.{number_at}
 use Rattle.al_environment.specs.Written.{written}
-use Rattle.al_operands.specs.declared.operand.Operand.{Operand}
-use Rattle.al_type_expr.specs.declared.columns.Columns.{Columns}
 use Rattle.al_type_expr.specs.Lists.{columns}
-use Rattle.al_type_expr.specs.Nodes.{Node, dropped_value, found, node, operand_of, value_of}
+use Rattle.al_type_expr.specs.Nodes.{Node, dropped_value, node, operand_of, value_of}
 use Rattle.zz.specs.Typed.{IfGood, IsOperand, IsSoundPlace, IsTyped}
 use Rattle.zz.specs.Nodes.{IsFound, IsShared, Tells}
 use Rattle.zz.specs.Callees.{IsCallee}

@@ -1,5 +1,5 @@
 -- What names, members and their uses give is well typed, where the environment tells of the program.
-use Rattle.std.specs.Prelude.{◌≡◌, ℕ, ◌<◌, ◌^◌, ◌++◌, Bool, true, false, ◌&&◌, ◌||◌, ◌⊎◌, All, List, [], Option, Some, None, slice_get, ⊤}
+use Rattle.std.specs.Prelude.{◌≡◌, ℕ, ◌<◌, ◌^◌, ◌++◌, Bool, true, false, ◌&&◌, ◌||◌, ◌⊎◌, All, List, [], Option, Some, slice_get}
 use Rattle.al_base.specs.Arith.{width_of}
 use Rattle.al_base.specs.declared.place.Place.{Place}
 use Rattle.al_tree.specs.declared.integer.Integer.{Integer}
@@ -9,7 +9,6 @@ use Rattle.al_typed.specs.declared.ty.Ty.{Ty}
 use Rattle.al_typed.specs.declared.ty.Ty.TheVariants as ty
 use Rattle.al_typed.specs.declared.program.Aggregate.{Aggregate as AggregateRow}
 use Rattle.al_typed.specs.declared.program.Function.{Function as FunctionRow}
-use Rattle.al_typed.specs.declared.expression.TExpr.{TExpr}
 use Rattle.al_typed.specs.declared.expression.TPlace.{TPlace}
 use Rattle.al_typed.specs.declared.expression.TPlace.TheVariants as place
 use Rattle.al_typed.specs.Types.{is_void, is_whole}

@@ -1,20 +1,19 @@
 -- What operators, casts, channel operations, print and sizeof give is well typed, where their operands are.
-use Rattle.std.specs.Prelude.{◌≡◌, ℕ, true, All, List, Option}
+use Rattle.std.specs.Prelude.{◌≡◌, true, All, List, Option}
 use Rattle.al_base.specs.declared.place.Place.{Place}
 use Rattle.al_tree.specs.declared.expression.BinaryOp.{BinaryOp as Written}
 use Rattle.al_typed.specs.declared.ty.Ty.{Ty}
-use Rattle.al_typed.specs.declared.ty.Ty.TheVariants as ty
 use Rattle.al_typed.specs.declared.expression.UnaryOp.{UnaryOp}
 use Rattle.al_typed.specs.declared.expression.BinaryOp.{BinaryOp}
 use Rattle.al_typed.specs.declared.expression.Logic.{Logic}
 use Rattle.al_typed.specs.declared.expression.PrintPiece.{PrintPiece}
 use Rattle.al_typed.specs.declared.expression.TExpr.{TExpr}
-use Rattle.al_typed.specs.Types.{int, is_scalar}
+use Rattle.al_typed.specs.Types.{is_scalar}
 use Rattle.al_typed.specs.Typed.{type_of}
 use Rattle.al_typed.specs.WellTyped.{IsPromoted, Scope, is_sound, rows}
 use Rattle.al_convert.specs.Kinds.{is_integer}
 use Rattle.al_operands.specs.declared.operand.Operand.{Operand}
-use Rattle.al_operators.specs.Operators.{addition, added, binary, bitwise, can_receive, can_send, cast, channel, combined, complement, complement_value, condition, decision, equality, multiplication, multiplied, negation, order, printable, printed, received, sent, shift, shifted_by, signed, signed_value, size_of_type, size_of_value, subtracted, subtraction, terminated, used}
+use Rattle.al_operators.specs.Operators.{addition, added, binary, bitwise, can_receive, can_send, cast, combined, complement, condition, decision, equality, multiplication, multiplied, negation, order, printable, printed, received, sent, shift, shifted_by, signed, size_of_type, size_of_value, subtracted, subtraction, terminated, used}
 use Rattle.zz.specs.Typed.{IfGood, IsOperand, IsTyped, IsUsable}
 use Rattle.zz.specs.Operands.{IsOf}
 

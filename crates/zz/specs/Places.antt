@@ -1,5 +1,4 @@
 -- What is done with places, and what makes a place, is well typed, where the places and operands are.
-use Rattle.std.specs.Prelude.{List}
 use Rattle.al_base.specs.declared.place.Place.{Place}
 use Rattle.al_tree.specs.declared.expression.BinaryOp.{BinaryOp as Written}
 use Rattle.al_typed.specs.declared.expression.BinaryOp.{BinaryOp}

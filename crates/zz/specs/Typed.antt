@@ -1,8 +1,7 @@
 -- What operators and places are given and give: values and places that are well typed, of types that are sound.
-use Rattle.std.specs.Prelude.{◌≡◌, Bool, true, false, ◌||◌, Option, Some, None, ⊤}
+use Rattle.std.specs.Prelude.{◌≡◌, true, ◌||◌, ⊤}
 use Rattle.al_base.specs.declared.arith.Kind.TheVariants as kind
 use Rattle.al_rules.specs.Outcome.{Outcome, Good, Bad}
-use Rattle.al_typed.specs.declared.ty.Ty.{Ty}
 use Rattle.al_typed.specs.declared.expression.TExpr.{TExpr}
 use Rattle.al_typed.specs.declared.expression.TPlace.{TPlace}
 use Rattle.al_typed.specs.Types.{is_void, is_whole}
