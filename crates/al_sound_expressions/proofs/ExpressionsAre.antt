@@ -145,14 +145,14 @@ unfolding assigned_to
 assigned_to_is s at t x a k o =
     asked (IsUsable s) 33 at (rule_33_converts x (target_type t)) (leaves.assign t x.value)
     (λ q.
-      let c = operand_converts s x (target_type t) o q in
-      let r = aimed_is s t (type_of x.value) a k c o.usable.sound o.usable.whole in
-      let e = converted_is s (target_type t) x.value o.usable r.1 c in
-      record {
-        value = rw (IsValue-Assign s (target_type t) t (converted (target_type t) x.value)) ((e_whole s t x e, (r.0, (refl, (e.usable.value, e.is)))));
-        sound = r.1;
-        whole = e_whole s t x e;
-      })
+    let c = operand_converts s x (target_type t) o q in
+    let r = aimed_is s t (type_of x.value) a k c o.usable.sound o.usable.whole in
+    let e = converted_is s (target_type t) x.value o.usable r.1 c in
+    record {
+      value = rw (IsValue-Assign s (target_type t) t (converted (target_type t) x.value)) ((e_whole s t x e, (r.0, (refl, (e.usable.value, e.is)))));
+      sound = r.1;
+      whole = e_whole s t x e;
+    })
   where
     e_whole : (s : Scope) (t : TTarget) (x : Operand) → IsOf s (target_type t) (converted (target_type t) x.value) → is_whole (rows s) (target_type t) ≡ true
     e_whole s t x e = sym (ap (is_whole (rows s)) e.is) ∙ e.usable.whole
@@ -189,7 +189,7 @@ called_is s env e at ns (callee.Function returns number receiver parameters) h c
     (arguments_are s at parameters (map (operand_of env) ns) c.types.passed (operands_of s env e ns h))
     (λ es a. record {
       value = rw (IsValue-Call s returns number receiver es)
-        ((c.function, (c.is, (c.returned, (c.given, (given_by s receiver c.given c.is_given, (a.values, rw a.types c.taken)))))));
+          ((c.function, (c.is, (c.returned, (c.given, (given_by s receiver c.given c.is_given, (a.values, rw a.types c.taken)))))));
       sound = c.types.sound;
       whole = c.types.whole;
     })
@@ -224,8 +224,8 @@ assignment_is s env e at assign.Assign a b h k small =
     after (λ x. IsOperand s x × IfGood (a.target false at (type_of x.value)) (λ t. is_small_target (rows s) t ≡ true)) (IsTyped s) (operand_of env b) _
     (both_of (IsOperand s) _ (operand_of env b) (operand_of_is s env e b k) (small refl))
     (λ x o. after (λ t. IsAimed s t × (is_small_target (rows s) t ≡ true)) (IsTyped s) (a.target false at (type_of x.value)) _
-      (both_of (IsAimed s) _ (a.target false at (type_of x.value)) (h.target false at (type_of x.value) o.0.usable.sound o.0.usable.whole) o.1)
-      (λ t q. also (IsUsable s) (IsTyped s) (assigned_to at t x) (assigned_to_is s at t x q.0 q.1 o.0) (λ d u. usable_typed s d u)))
+    (both_of (IsAimed s) _ (a.target false at (type_of x.value)) (h.target false at (type_of x.value) o.0.usable.sound o.0.usable.whole) o.1)
+    (λ t q. also (IsUsable s) (IsTyped s) (assigned_to at t x) (assigned_to_is s at t x q.0 q.1 o.0) (λ d u. usable_typed s d u)))
 assignment_is s env e at (assign.Compound how) a b h k small =
     after (λ (p : Found × Operand). IsFound s p.0 × IsOperand s p.1) (IsTyped s) (pair a.found (operand_of env b)) _
     (paired (IsFound s) (IsOperand s) a.found (operand_of env b) h.found (operand_of_is s env e b k))
@@ -274,18 +274,18 @@ step_is s env here t (Expr-F.Name at name) h k =
     record { found = p.found; target = p.target; callee = declared_callee_is s env here t at (declaration_at env.scopes.names at) }
 step_is s env here t (Expr-F.Tuple at parts) h k =
     let p = plain_node_is s env t.aggregates at (and_then (columns (map (operand_of env) parts)) (λ c. Good (tuple c)))
-      (after (λ c. AreColumns s c × (is_small (rows s) (ty.Tuple c.types) ≡ true)) (IsFound s) (columns (map (operand_of env) parts)) _
-        (both_of (AreColumns s) _ (columns (map (operand_of env) parts)) (columns_are s (map (operand_of env) parts) (operands_of s env t.aggregates parts h)) k)
-        (λ c a. columns_tuple s c a.0 a.1)) in
+    (after (λ c. AreColumns s c × (is_small (rows s) (ty.Tuple c.types) ≡ true)) (IsFound s) (columns (map (operand_of env) parts)) _
+    (both_of (AreColumns s) _ (columns (map (operand_of env) parts)) (columns_are s (map (operand_of env) parts) (operands_of s env t.aggregates parts h)) k)
+    (λ c a. columns_tuple s c a.0 a.1)) in
     record { found = p.found; target = λ is_part by u o w. tuple_aim_is s parts h is_part by u o; callee = p.callee }
 step_is s env here t (Expr-F.Unary at op a) h k =
     plain_node_is s env t.aggregates at (and_then a.found (unary env.aggregates at op a.at))
     (after (λ f. IsFound s f × (op ≡ prefix.Address → IsShared s f)) (IsFound s) a.found _ (both_of (IsFound s) _ a.found h.found (address_fit s env here at op a k))
-      (λ f q. subst (λ rs. IfGood (unary rs at op a.at f) (IsFound s)) (sym t.aggregates) (unary_is s at op a.at f q.0 q.1)))
+    (λ f q. subst (λ rs. IfGood (unary rs at op a.at f) (IsFound s)) (sym t.aggregates) (unary_is s at op a.at f q.0 q.1)))
 step_is s env here t (Expr-F.Cast at to a) h k =
     plain_node_is s env t.aggregates at (gives (and_then a.found (cast_to env.aggregates at (written env here to) a.at)))
     (gives_typed s _ (after (IsFound s) (IsTyped s) a.found _ h.found
-      (λ f q. subst (λ rs. IfGood (cast_to rs at (written env here to) a.at f) (IsTyped s)) (sym t.aggregates) (cast_to_is s at (written env here to) a.at f q k))))
+    (λ f q. subst (λ rs. IfGood (cast_to rs at (written env here to) a.at f) (IsTyped s)) (sym t.aggregates) (cast_to_is s at (written env here to) a.at f q k))))
 step_is s env here t (Expr-F.SizeofType at of) h k =
     plain_node_is s env t.aggregates at (gives (type_sized env.aggregates at (written env here of)))
     (gives_usable s _ (subst (λ rs. IfGood (type_sized rs at (written env here of)) (IsUsable s)) (sym t.aggregates) (type_sized_is s at (written env here of) k)))
@@ -295,11 +295,11 @@ step_is s env here t (Expr-F.SizeofValue at a) h k =
 step_is s env here t (Expr-F.Index at a b) h k =
     plain_node_is s env t.aggregates at (is_at (and_then (pair (operand_of env a) (operand_of env b)) (λ p. index env.aggregates at p.0 p.1)))
     (is_at_is s _ (after (λ (p : Operand × Operand). IsOperand s p.0 × IsOperand s p.1) (IsOpenPlace s) (pair (operand_of env a) (operand_of env b)) _
-      (paired (IsOperand s) (IsOperand s) (operand_of env a) (operand_of env b) (operand_of_is s env t.aggregates a h.0) (operand_of_is s env t.aggregates b h.1))
-      (λ p q. subst (λ rs. IfGood (index rs at p.0 p.1) (IsOpenPlace s)) (sym t.aggregates) (index_is s at p.0 p.1 q.0 q.1))))
+    (paired (IsOperand s) (IsOperand s) (operand_of env a) (operand_of env b) (operand_of_is s env t.aggregates a h.0) (operand_of_is s env t.aggregates b h.1))
+    (λ p q. subst (λ rs. IfGood (index rs at p.0 p.1) (IsOpenPlace s)) (sym t.aggregates) (index_is s at p.0 p.1 q.0 q.1))))
 step_is s env here t (Expr-F.Member at a how name) h k =
     let p = plain_node_is s env t.aggregates at (and_then a.found (member_found env here at how name.name a.at))
-      (after (IsFound s) (IsFound s) a.found _ h.found (λ f q. member_found_is s env here t at how name.name a.at f q)) in
+    (after (IsFound s) (IsFound s) a.found _ h.found (λ f q. member_found_is s env here t at how name.name a.at f q)) in
     record {
       found = p.found;
       target = p.target;
@@ -314,12 +314,12 @@ step_is s env here t (Expr-F.Postfix at op a) h k =
 step_is s env here t (Expr-F.Binary at op a b) h k =
     plain_node_is s env t.aggregates at (gives (and_then (pair (operand_of env a) (operand_of env b)) (λ p. binary env.aggregates at op p.0 p.1)))
     (gives_usable s _ (after (λ (p : Operand × Operand). IsOperand s p.0 × IsOperand s p.1) (IsUsable s) (pair (operand_of env a) (operand_of env b)) _
-      (paired (IsOperand s) (IsOperand s) (operand_of env a) (operand_of env b) (operand_of_is s env t.aggregates a h.0) (operand_of_is s env t.aggregates b h.1))
-      (λ p q. subst (λ rs. IfGood (binary rs at op p.0 p.1) (IsUsable s)) (sym t.aggregates) (binary_is op s at p.0 p.1 q.0 q.1))))
+    (paired (IsOperand s) (IsOperand s) (operand_of env a) (operand_of env b) (operand_of_is s env t.aggregates a h.0) (operand_of_is s env t.aggregates b h.1))
+    (λ p q. subst (λ rs. IfGood (binary rs at op p.0 p.1) (IsUsable s)) (sym t.aggregates) (binary_is op s at p.0 p.1 q.0 q.1))))
 step_is s env here t (Expr-F.Iterator at a b) h k = plain_node_is s env t.aggregates at (iterator_found at (number_at here.iterators at)) (iterator_is s at (number_at here.iterators at) k)
 step_is s env here t (Expr-F.Assign at op a b) h k =
     plain_node_is s env t.aggregates at (gives (assignment env at op a b)) (gives_typed s (assignment env at op a b) (assignment_is s env t.aggregates at op a b h.0 h.1 (assign_fit s env here at op a b k)))
 step_is s env here t (Expr-F.Sequence at ns) h k =
     plain_node_is s env t.aggregates at (gives (and_then (each (map (dropped_of env) ns)) (sequenced at)))
     (gives_typed s _ (after (Every (IsTyped s)) (IsTyped s) (each (map (dropped_of env) ns)) (sequenced at) (each_is (IsTyped s) (map (dropped_of env) ns) (dropped_each s env t.aggregates ns h))
-      (λ es q. sequenced_is s at es q)))
+    (λ es q. sequenced_is s at es q)))

@@ -90,7 +90,7 @@ pub number_is : (s : Scope) (n : ℕ) → n < 2 ^ 64 → IsFound s (number n)
 unfolding number
 number_is s n h = record {
   typed = usable_typed s (expr.Constant (ty.Integer (kind_of_value n)) n)
-    (integer_usable s (kind_of_value n) (expr.Constant (ty.Integer (kind_of_value n)) n)
+      (integer_usable s (kind_of_value n) (expr.Constant (ty.Integer (kind_of_value n)) n)
       (rw (IsValue-Constant s (ty.Integer (kind_of_value n)) n) ((kind_of_value n, (refl, value_room n h)))) refl);
   written = zero_has_type n;
 }

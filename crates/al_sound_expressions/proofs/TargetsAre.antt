@@ -47,8 +47,8 @@ mutual
       let xs = tuple_before from ts (sym (ap (well.converts from) a.0) ∙ c) in
       let small = and_both (is_small (rows s) t) (are_small_targets (rows s) parts) k in
       let rest = targets_are s parts xs.0 a.1 small.1
-        (sym (tuples_convert xs.0 ts) ∙ sym (ap₂ well.converts xs.1 a.0) ∙ c)
-        (tuple_parts (rows s) xs.0 (sym (ap (is_sound (rows s)) xs.1) ∙ o)) in
+      (sym (tuples_convert xs.0 ts) ∙ sym (ap₂ well.converts xs.1 a.0) ∙ c)
+      (tuple_parts (rows s) xs.0 (sym (ap (is_sound (rows s)) xs.1) ∙ o)) in
       let sound : is_sound (rows s) t ≡ true = ap (is_sound (rows s)) a.0 ∙ sound-Tuple (rows s) ts rest.1 (sym (ap (is_small (rows s)) a.0) ∙ small.0) in
       ((sound, (rest.0, a.0)), sound)
 
@@ -63,11 +63,12 @@ mutual
       let here = and_both (is_sound (rows s) x) (is_whole (rows s) x) passed.0 in
       let small = and_both (is_small_target (rows s) target) (are_small_targets (rows s) r) k in
       let first = target_is s target x a.0 small.0 converts.0 here.0 here.1 in
-      let rest = targets_are s r xs a.1 small.1 converts.1 passed.1 in
-      ((first.0, rest.0),
+      let rest = targets_are s r xs a.1 small.1 converts.1 passed.1 in (
+        (first.0, rest.0),
         both_true (is_sound (rows s) (target_type target) && is_whole (rows s) (target_type target)) (each_passed (rows s) (target_types r))
-          (both_true (is_sound (rows s) (target_type target)) (is_whole (rows s) (target_type target)) first.1 (whole_after (rows s) x (target_type target) converts.0 here.1 first.1))
-          rest.1)
+            (both_true (is_sound (rows s) (target_type target)) (is_whole (rows s) (target_type target)) first.1 (whole_after (rows s) x (target_type target) converts.0 here.1 first.1))
+            rest.1,
+      )
 
 -- what is assigned to is well typed, where what is assigned converts
 pub aimed_is : (s : Scope) (x : TTarget) (from : Ty) → IsAimed s x → is_small_target (rows s) x ≡ true → well.converts from (target_type x) ≡ true

@@ -143,9 +143,9 @@ unfolding method_callee rule_5_is_defined
 method_callee_is s env here tells at t name f h r g =
     asked (IsCallee s) 5 at (rule_5_is_defined f.signature) (method_called f r)
     (λ q.
-      let n = there f.signature.number q in
-      let m = method_is s env here tells t name n.0 f h n.1 in
-      called_is s f.signature n.0 (Some r) (passes f.passed m.0) n.1 m.2 (g m.0 m.1))
+    let n = there f.signature.number q in
+    let m = method_is s env here tells t name n.0 f h n.1 in
+    called_is s f.signature n.0 (Some r) (passes f.passed m.0) n.1 m.2 (g m.0 m.1))
 
 value_gives : (s : Scope) (e : TExpr) (path : List ℕ) (how : Passed) (object : Ty) → IsTyped s e → rule_57_has_place how ≡ true → LeadsTo (rows s) path (type_of e) object
     → Gives s (receiver.Value e path how) (passes how object)

@@ -196,7 +196,7 @@ function_value_is s f number e c =
     usable_found s (expr.Function t (number_of f))
     (record {
       value = rw (IsValue-Function s t (number_of f))
-        ((c.function, (rw (number_is f number e) c.is, ap₂ (λ (u : Ty) (us : List Ty). ty.Pointer (ty.Function u us)) c.returns (sym c.parameters))));
+          ((c.function, (rw (number_is f number e) c.is, ap₂ (λ (u : Ty) (us : List Ty). ty.Pointer (ty.Function u us)) c.returns (sym c.parameters))));
       sound = sound-Pointer (rows s) (ty.Function f.returns f.parameters) ∙ sound-Function (rows s) f.returns f.parameters c.sound c.whole c.passed;
       whole = whole-Pointer (rows s) (ty.Function f.returns f.parameters);
     })
@@ -281,8 +281,8 @@ place_dot_is s env here t at name p h = on (member_in env (Some (place_type p)) 
         let x = member_is s env here t (place_type p) name m e in
         asked (IsFound s) 10 at (rule_10_is_open here m.interns) (place_of (place_member p m))
         (λ q. open_place s (place_member p m)
-          (record { place = rw (IsPlace-Member s m.ty p m.path) ((h.place, x.0)); sound = (stored_is (rows s) m.ty x.1).0 })
-          (member_address s m.ty p m.path))
+        (record { place = rw (IsPlace-Member s m.ty p m.path) ((h.place, x.0)); sound = (stored_is (rows s) m.ty x.1).0 })
+        (member_address s m.ty p m.path))
 
 value_dot_is : (s : Scope) (env : Environment) (here : Here) → Tells s env here → (at : Place) (name : ℕ) (e : TExpr) → IsTyped s e → IfGood (dot_value env here at name e) (IsFound s)
 unfolding value_dot member_of_value whole
@@ -295,13 +295,13 @@ value_dot_is s env here t at name e u = on (member_in env (Some (type_of e)) nam
         let o = stored_is (rows s) m.ty x.1 in
         after (λ a. (a ≡ e) × (is_whole (rows s) m.ty ≡ true)) (IsFound s) (whole here at e m) _
         (asked_twice (λ a. (a ≡ e) × (is_whole (rows s) m.ty ≡ true)) 10 58 at (rule_10_is_open here m.interns) (rule_58_is_read e m.ty) e
-          (λ p k. (refl, both_true (is_complete (rows s) m.ty) (not (is_array m.ty)) o.1 (read_whole e m.ty k))))
+        (λ p k. (refl, both_true (is_complete (rows s) m.ty) (not (is_array m.ty)) o.1 (read_whole e m.ty k))))
         (λ a h. subst (λ d. IsFound s (value (value_member d m))) (sym h.0)
-          (usable_found s (value_member e m) (record {
-            value = rw (IsValue-MemberOf s m.ty e m.path) ((u.value, (x.0, h.1)));
-            sound = o.0;
-            whole = h.1;
-          })))
+        (usable_found s (value_member e m) (record {
+          value = rw (IsValue-MemberOf s m.ty e m.path) ((u.value, (x.0, h.1)));
+          sound = o.0;
+          whole = h.1;
+        })))
 
 dot_operand_is : (s : Scope) (env : Environment) (here : Here) → Tells s env here → (at : Place) (name : ℕ) (x : Operand) → IsFoundValue s x → IfGood (dot_operand env here at name x) (IsFound s)
 unfolding dot_operand
@@ -329,8 +329,8 @@ arrow_value_is s env here t at name e u = on (pointed (type_of e)) refl
             let x = member_is s env here t v name m k in
             asked (IsFound s) 10 at (rule_10_is_open here m.interns) (place_of (pointed_member e m))
             (λ p. open_place s (pointed_member e m)
-              (record { place = rw (IsPlace-PointedMember s m.ty e m.path) ((v, (u.value, (pointer_is (type_of e) v q, x.0)))); sound = (stored_is (rows s) m.ty x.1).0 })
-              (behind_address s m.ty e m.path))
+            (record { place = rw (IsPlace-PointedMember s m.ty e m.path) ((v, (u.value, (pointer_is (type_of e) v q, x.0)))); sound = (stored_is (rows s) m.ty x.1).0 })
+            (behind_address s m.ty e m.path))
 
 pub arrow_is : (s : Scope) (env : Environment) (here : Here) → Tells s env here → (at : Place) (name : ℕ) (x : Operand) → IsOperand s x → IfGood (arrow env here at name x) (IsFound s)
 unfolding arrow

@@ -4,4 +4,4 @@
 
 mod laws;
 
-pub use laws::{nodes_are_sound, callees_are_sound};
+pub use laws::{callees_are_sound, nodes_are_sound};
