@@ -270,8 +270,8 @@ step_is s env here t (Expr-F.Nil at) h k =
     let p = plain_node_is s env t.aggregates at (Good (nil_found at)) (nil_is s at) in
     record { found = p.found; target = λ is_part by u o w. nil_aim_is s is_part by u o w; callee = p.callee }
 step_is s env here t (Expr-F.Name at name) h k =
-    let p = plain_node_is s env t.aggregates at (named env here at) (declared_is s env here t at (declaration_at env.scopes.names at)) in
-    record { found = p.found; target = p.target; callee = declared_callee_is s env here t at (declaration_at env.scopes.names at) }
+    let p = plain_node_is s env t.aggregates at (named env here at) (declared_is s env here t at (declaration_at env.scopes.names at) k) in
+    record { found = p.found; target = p.target; callee = declared_callee_is s env here t at (declaration_at env.scopes.names at) k }
 step_is s env here t (Expr-F.Tuple at parts) h k =
     let p = plain_node_is s env t.aggregates at (and_then (columns (map (operand_of env) parts)) (λ c. Good (tuple c)))
     (after (λ c. AreColumns s c × (is_small (rows s) (ty.Tuple c.types) ≡ true)) (IsFound s) (columns (map (operand_of env) parts)) _

@@ -1,7 +1,9 @@
 -- What a tree of an expression gives is well typed, where its numbers have room, the types that are written in it are sound, its tuples
--- are no larger than types may be, and the locals whose addresses it takes are shared.
+-- are no larger than types may be, and the locals are shared
+-- whose addresses it takes, and those that it names of functions round a branch of a par.
 use Rattle.std.specs.Prelude.{◌≡◌, ℕ, ◌<◌, ◌^◌, Bool, true, false, ◌&&◌, Contains, List, [], ◌∷◌, map, length, Some, ⊤}
 use Rattle.al_base.specs.declared.place.Place.{Place}
+use Rattle.al_scope.specs.Firsts.{declaration_at}
 use Rattle.al_tree.specs.declared.expression.UnaryOp.TheVariants as prefix
 use Rattle.al_tree.specs.declared.expression.AssignOp.TheVariants as assign
 use Rattle.al_tree.specs.declared.expression.Expr.{Expr, out-Expr, map-Expr}
@@ -23,7 +25,7 @@ use Rattle.al_environment.specs.Written.{written}
 use Rattle.al_type_expr.specs.Lists.{columns}
 use Rattle.al_type_expr.specs.Nodes.{Node, dropped_value, node, operand_of, value_of}
 use Rattle.al_sound_operators.specs.Typed.{IfGood, IsOperand, IsSoundPlace, IsTyped}
-use Rattle.al_sound_nodes.specs.Nodes.{IsFound, IsShared, Tells}
+use Rattle.al_sound_nodes.specs.Nodes.{IsFound, IsReached, IsShared, Tells}
 use Rattle.al_sound_nodes.specs.Callees.{IsCallee}
 
 -- ---- targets
@@ -92,6 +94,7 @@ abbrev pub IsFit : Scope → Environment → Here → Expr-F Node → Type 0
 IsFit s env here (Expr-F.Number at value) = value < 2 ^ 64
 IsFit s env here (Expr-F.Char at value) = value < 2 ^ 8
 IsFit s env here (Expr-F.Text at bytes) = (n : ℕ) → number_at here.texts at ≡ Some n → n < length s.program.strings
+IsFit s env here (Expr-F.Name at name) = IsReached s here (declaration_at env.scopes.names at)
 IsFit s env here (Expr-F.Tuple at parts) = IfGood (columns (map (operand_of env) parts)) (λ c. is_small (rows s) (ty.Tuple c.types) ≡ true)
 IsFit s env here (Expr-F.Unary at prefix.Address a) = IfGood a.found (IsShared s)
 IsFit s env here (Expr-F.Cast at to a) = IsSoundWritten s env here to

@@ -31,7 +31,7 @@ use Rattle.al_type_nodes.specs.Members.{aggregate_of, arrow, dot, function_in}
 use Rattle.al_type_nodes.specs.Calls.{arrow_receiver, dot_receiver, object, operand_receiver, place_object, place_receiver, pointer_object, pointer_receiver, value_object, value_receiver}
 use Rattle.al_type_calls.specs.Callees.{arrow_callee, arrow_member, arrow_method, arrowed, callee_as, declared_callee, defined_callee, dot_callee, dot_member, dot_method, dotted, found_callee, found_type, function_called, function_callee, method_callee, method_called, pointed_callee, pointer_callee, value_callee, variable_callee}
 use Rattle.al_sound_operators.specs.Typed.{IfGood, IsOperand, IsTyped, IsUsable}
-use Rattle.al_sound_nodes.specs.Nodes.{Calls, IsFound, Tells}
+use Rattle.al_sound_nodes.specs.Nodes.{Calls, IsFound, IsReached, Tells}
 use Rattle.al_sound_nodes.specs.Callees.{CalleesAreSound, HasTypes, IsCallee, IsGivenBy, IsNamedCallee}
 use Rattle.al_sound_operators.proofs.TypeForms.{function_is, pointer_is, there}
 use Rattle.al_sound_operators.proofs.SoundTypes.{sound-Pointer}
@@ -100,25 +100,25 @@ found_in_is s env here t at f h = subst (λ rs. IfGood (found_callee rs at f) (I
 
 -- ---- bare names
 
-variable_callee_is : (s : Scope) (env : Environment) (here : Here) → Tells s env here → (at : Place) (d : Declaration) → IfGood (variable_callee env here at d) (IsCallee s)
+variable_callee_is : (s : Scope) (env : Environment) (here : Here) → Tells s env here → (at : Place) (d : Declaration) → IsReached s here (Some d) → IfGood (variable_callee env here at d) (IsCallee s)
 unfolding variable_callee
-variable_callee_is s env here t at d =
-    after (IsFound s) (IsCallee s) (declared env here at (Some d)) (found_callee env.aggregates at) (declared_is s env here t at (Some d)) (λ f h. found_in_is s env here t at f h)
+variable_callee_is s env here t at d h =
+    after (IsFound s) (IsCallee s) (declared env here at (Some d)) (found_callee env.aggregates at) (declared_is s env here t at (Some d) h) (λ f k. found_in_is s env here t at f k)
 
-callee_as_is : (s : Scope) (env : Environment) (here : Here) → Tells s env here → (at : Place) (d : Declaration) → IfGood (callee_as env here at d) (IsCallee s)
+callee_as_is : (s : Scope) (env : Environment) (here : Here) → Tells s env here → (at : Place) (d : Declaration) → IsReached s here (Some d) → IfGood (callee_as env here at d) (IsCallee s)
 unfolding callee_as
-callee_as_is s env here t at (declaration.Global n) = variable_callee_is s env here t at (declaration.Global n)
-callee_as_is s env here t at (declaration.Function n) = function_callee_is s at (function env n) (λ number f e q. t.functions n number f e q)
-callee_as_is s env here t at (declaration.Constant n) = variable_callee_is s env here t at (declaration.Constant n)
-callee_as_is s env here t at (declaration.Local n) = variable_callee_is s env here t at (declaration.Local n)
-callee_as_is s env here t at (declaration.Outer around n) = variable_callee_is s env here t at (declaration.Outer around n)
-callee_as_is s env here t at declaration.Print = tt
-callee_as_is s env here t at declaration.Terminate = tt
+callee_as_is s env here t at (declaration.Global n) h = variable_callee_is s env here t at (declaration.Global n) h
+callee_as_is s env here t at (declaration.Function n) h = function_callee_is s at (function env n) (λ number f e q. t.functions n number f e q)
+callee_as_is s env here t at (declaration.Constant n) h = variable_callee_is s env here t at (declaration.Constant n) h
+callee_as_is s env here t at (declaration.Local n) h = variable_callee_is s env here t at (declaration.Local n) h
+callee_as_is s env here t at (declaration.Outer around n) h = variable_callee_is s env here t at (declaration.Outer around n) h
+callee_as_is s env here t at declaration.Print h = tt
+callee_as_is s env here t at declaration.Terminate h = tt
 
-pub declared_callee_is : (s : Scope) (env : Environment) (here : Here) → Tells s env here → (at : Place) (d : Option Declaration) → IfGood (declared_callee env here at d) (IsCallee s)
+pub declared_callee_is : (s : Scope) (env : Environment) (here : Here) → Tells s env here → (at : Place) (d : Option Declaration) → IsReached s here d → IfGood (declared_callee env here at d) (IsCallee s)
 unfolding declared_callee
-declared_callee_is s env here t at None = tt
-declared_callee_is s env here t at (Some d) = callee_as_is s env here t at d
+declared_callee_is s env here t at None h = tt
+declared_callee_is s env here t at (Some d) h = callee_as_is s env here t at d h
 
 -- ---- functions of adts
 

@@ -44,7 +44,7 @@ use Rattle.al_type_nodes.specs.Uses.{address_of, addressed, dropped, loaded_oper
 use Rattle.al_type_nodes.specs.Names.{constant_found, declared, declared_as, defined_function, function_found, function_value, global_found, integer_found, local_found, number_of, outer_found, round_found}
 use Rattle.al_type_nodes.specs.Members.{aggregate_at, aggregate_of, arrow, arrow_value, dot, dot_operand, dot_place, dot_value, function_in, member_behind, member_in, member_of_place, member_of_value, place_dot, place_member, pointed_member, value_arrow, value_dot, value_member, whole}
 use Rattle.al_sound_operators.specs.Typed.{IfGood, IsFoundValue, IsOperand, IsSoundPlace, IsTyped, IsUsable, has_type}
-use Rattle.al_sound_nodes.specs.Nodes.{Calls, IsFound, IsGlobalOf, IsLocalPlace, IsShared, NodesAreSound, Tells, is_passed}
+use Rattle.al_sound_nodes.specs.Nodes.{Calls, IsFound, IsGlobalOf, IsLocalPlace, IsShared, NodesAreSound, Tells, is_passed, IsReached}
 use Rattle.al_sound_operators.proofs.TypeForms.{pointer_is, some_is, there}
 use Rattle.al_sound_operators.proofs.SameTypes.{and_both}
 use Rattle.al_sound_operators.proofs.SoundTypes.{sound-Pointer, whole-Pointer}
@@ -222,20 +222,20 @@ constant_found_is s at (Some c) h = on c.value refl
     on None e = tt
     on (Some i) e = usable_found s (expr.Constant (ty.Integer i.kind) i.bits) (integer_usable s i.kind (expr.Constant (ty.Integer i.kind) i.bits) (rw (IsValue-Constant s (ty.Integer i.kind) i.bits) ((i.kind, (refl, h c i refl e)))) refl)
 
-declared_as_is : (s : Scope) (env : Environment) (here : Here) → Tells s env here → (at : Place) (d : Declaration) → IfGood (declared_as env here at d) (IsFound s)
+declared_as_is : (s : Scope) (env : Environment) (here : Here) → Tells s env here → (at : Place) (d : Declaration) → IsReached s here (Some d) → IfGood (declared_as env here at d) (IsFound s)
 unfolding declared_as
-declared_as_is s env here t at (declaration.Global n) = global_found_is s at (global env n) (λ v e. t.globals n v e)
-declared_as_is s env here t at (declaration.Function n) = function_found_is s at (function env n) (λ number f e q. t.functions n number f e q)
-declared_as_is s env here t at (declaration.Constant n) = constant_found_is s at (slice_get env.scopes.constants.list n) (λ c i e q. t.constants n c i e q)
-declared_as_is s env here t at (declaration.Local n) = local_found_is s at (local here n) (λ v e. t.locals n v e)
-declared_as_is s env here t at (declaration.Outer around n) = round_found_is s at (round here around) n (λ r v e q. t.outers around n r v e q)
-declared_as_is s env here t at declaration.Print = tt
-declared_as_is s env here t at declaration.Terminate = tt
+declared_as_is s env here t at (declaration.Global n) h = global_found_is s at (global env n) (λ v e. t.globals n v e)
+declared_as_is s env here t at (declaration.Function n) h = function_found_is s at (function env n) (λ number f e q. t.functions n number f e q)
+declared_as_is s env here t at (declaration.Constant n) h = constant_found_is s at (slice_get env.scopes.constants.list n) (λ c i e q. t.constants n c i e q)
+declared_as_is s env here t at (declaration.Local n) h = local_found_is s at (local here n) (λ v e. t.locals n v e)
+declared_as_is s env here t at (declaration.Outer around n) h = round_found_is s at (round here around) n h
+declared_as_is s env here t at declaration.Print h = tt
+declared_as_is s env here t at declaration.Terminate h = tt
 
-pub declared_is : (s : Scope) (env : Environment) (here : Here) → Tells s env here → (at : Place) (d : Option Declaration) → IfGood (declared env here at d) (IsFound s)
+pub declared_is : (s : Scope) (env : Environment) (here : Here) → Tells s env here → (at : Place) (d : Option Declaration) → IsReached s here d → IfGood (declared env here at d) (IsFound s)
 unfolding declared
-declared_is s env here t at None = tt
-declared_is s env here t at (Some d) = declared_as_is s env here t at d
+declared_is s env here t at None h = tt
+declared_is s env here t at (Some d) h = declared_as_is s env here t at d h
 
 -- ---- members
 

@@ -18,7 +18,7 @@ use Rattle.al_type_calls.specs.declared.callee.Callee.{Callee}
 use Rattle.al_type_calls.specs.declared.callee.Callee.TheVariants as callee
 use Rattle.al_type_calls.specs.Callees.{arrow_callee, declared_callee, dot_callee, pointer_callee}
 use Rattle.al_sound_operators.specs.Typed.{IfGood, IsOperand, IsUsable}
-use Rattle.al_sound_nodes.specs.Nodes.{IsFound, Tells, is_passed}
+use Rattle.al_sound_nodes.specs.Nodes.{IsFound, IsReached, Tells, is_passed}
 
 -- what the object before a function's name gives to it, where there is one
 abbrev pub IsGivenBy : Scope → Option TReceiver → List Ty → Type 0
@@ -55,6 +55,6 @@ IsCallee s (callee.Pointer returns pointer parameters) = IsPointerCallee s retur
 
 pub record CalleesAreSound : Type 0 where
   pub pointer_callee : (s : Scope) (at : Place) (x : Operand) → IsOperand s x → IfGood (pointer_callee at x) (IsCallee s)
-  pub declared_callee : (s : Scope) (env : Environment) (here : Here) → Tells s env here → (at : Place) (d : Option Declaration) → IfGood (declared_callee env here at d) (IsCallee s)
+  pub declared_callee : (s : Scope) (env : Environment) (here : Here) → Tells s env here → (at : Place) (d : Option Declaration) → IsReached s here d → IfGood (declared_callee env here at d) (IsCallee s)
   pub dot_callee : (s : Scope) (env : Environment) (here : Here) → Tells s env here → (at : Place) (name : ℕ) (f : Found) → IsFound s f → IfGood (dot_callee env here at name f) (IsCallee s)
   pub arrow_callee : (s : Scope) (env : Environment) (here : Here) → Tells s env here → (at : Place) (name : ℕ) (x : Operand) → IsOperand s x → IfGood (arrow_callee env here at name x) (IsCallee s)

@@ -1,10 +1,11 @@
 -- What names, members and their uses give is well typed, where the environment tells of the program.
-use Rattle.std.specs.Prelude.{◌≡◌, ℕ, ◌<◌, ◌^◌, ◌++◌, Bool, true, false, ◌&&◌, ◌||◌, ◌⊎◌, All, List, [], Option, Some, slice_get}
+use Rattle.std.specs.Prelude.{◌≡◌, ℕ, ◌<◌, ◌^◌, ◌++◌, Bool, true, false, ◌&&◌, ◌||◌, ◌⊎◌, All, List, [], Option, Some, slice_get, ⊤}
 use Rattle.al_base.specs.Arith.{width_of}
 use Rattle.al_base.specs.declared.place.Place.{Place}
 use Rattle.al_tree.specs.declared.integer.Integer.{Integer}
 use Rattle.al_tree.specs.declared.constants.EnumConstant.{EnumConstant}
 use Rattle.al_scope.specs.declared.declaration.Declaration.{Declaration}
+use Rattle.al_scope.specs.declared.declaration.Declaration.TheVariants as declaration
 use Rattle.al_typed.specs.declared.ty.Ty.{Ty}
 use Rattle.al_typed.specs.declared.ty.Ty.TheVariants as ty
 use Rattle.al_typed.specs.declared.program.Aggregate.{Aggregate as AggregateRow}
@@ -67,12 +68,16 @@ pub record Tells (s : Scope) (env : Environment) (here : Here) : Type 0 where
   pub aggregates : env.aggregates ≡ rows s
   pub globals : (n : ℕ) (v : Variable) → global env n ≡ Some v → IsGlobalOf s v
   pub locals : (n : ℕ) (v : Variable) → local here n ≡ Some v → IsSoundPlace s (place.Local v.ty v.number)
-  pub outers : (k n : ℕ) (r : Round) (v : Variable) → round here k ≡ Some r → slice_get r.locals n ≡ Some v → IsSoundPlace s (place.Outer v.ty r.number v.number)
   pub constants : (n : ℕ) (c : EnumConstant) (i : Integer) → slice_get env.scopes.constants.list n ≡ Some c → c.value ≡ Some i → i.bits < 2 ^ width_of i.kind
   pub functions : (n number : ℕ) (f : Signature) → function env n ≡ Some f → f.number ≡ Some number → Calls s f number []
   pub members : (aggregate name : ℕ) (m : NamedMember) → member_named env aggregate name ≡ Some m → IsMemberOf s aggregate m
   pub methods : (aggregate name number : ℕ) (f : NamedFunction) → function_named env aggregate name ≡ Some f → f.signature.number ≡ Some number
       → IsMethodOf s aggregate f number
+
+-- A local of a function round the branch at hand is shared, where it is named.
+abbrev pub IsReached : Scope → Here → Option Declaration → Type 0
+IsReached s here (Some (declaration.Outer k n)) = (r : Round) (v : Variable) → round here k ≡ Some r → slice_get r.locals n ≡ Some v → IsSoundPlace s (place.Outer v.ty r.number v.number)
+IsReached s here _ = ⊤
 
 -- ---- what is found
 
@@ -98,6 +103,6 @@ pub record NodesAreSound : Type 0 where
   pub sized : (s : Scope) (at : Place) (f : Found) → IsFound s f → IfGood (sized (rows s) at f) (IsUsable s)
   pub placed : (s : Scope) (at : Place) (f : Found) → IsFound s f → IfGood (placed at f) (IsSoundPlace s)
   pub addressed : (s : Scope) (at : Place) (f : Found) → IsFound s f → IsShared s f → IfGood (addressed at f) (IsUsable s)
-  pub declared : (s : Scope) (env : Environment) (here : Here) → Tells s env here → (at : Place) (d : Option Declaration) → IfGood (declared env here at d) (IsFound s)
+  pub declared : (s : Scope) (env : Environment) (here : Here) → Tells s env here → (at : Place) (d : Option Declaration) → IsReached s here d → IfGood (declared env here at d) (IsFound s)
   pub dot : (s : Scope) (env : Environment) (here : Here) → Tells s env here → (at : Place) (name : ℕ) (f : Found) → IsFound s f → IfGood (dot env here at name f) (IsFound s)
   pub arrow : (s : Scope) (env : Environment) (here : Here) → Tells s env here → (at : Place) (name : ℕ) (x : Operand) → IsOperand s x → IfGood (arrow env here at name x) (IsFound s)

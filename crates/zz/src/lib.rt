@@ -1,3 +1,0 @@
-//! Scratch.
-
-#![tactic(auto)]
