@@ -1,6 +1,6 @@
--- What a tree of an expression gives is well typed, where its numbers have room, the types that are written in it are sound, its tuples
--- are no larger than types may be, and the locals are shared
--- whose addresses it takes, and those that it names of functions round a branch of a par.
+-- What a tree of an expression gives is well typed, where its numbers have room, the types that are written in it are sound, its
+-- tuples are no larger than types may be, and the locals are shared whose addresses it takes, or that it names of functions
+-- round a branch of a par.
 use Rattle.std.specs.Prelude.{◌≡◌, ℕ, ◌<◌, ◌^◌, Bool, true, false, ◌&&◌, Contains, List, [], ◌∷◌, map, length, Some, ⊤}
 use Rattle.al_base.specs.declared.place.Place.{Place}
 use Rattle.al_scope.specs.Firsts.{declaration_at}
