@@ -1,0 +1,5 @@
+pub mod TargetsAre
+pub mod ExpressionLists
+pub mod NodesOf
+pub mod ExpressionsAre
+pub mod TreesAre

@@ -1,0 +1,2 @@
+pub mod NodesAre
+pub mod CalleesAre

@@ -1,0 +1,11 @@
+pub mod TypeForms
+pub mod SameTypes
+pub mod Conversions
+pub mod Literals
+pub mod SoundTypes
+pub mod Outcomes
+pub mod OperandsAre
+pub mod OperatorKinds
+pub mod OperatorsAre
+pub mod CastsAre
+pub mod PlacesAre

@@ -1,0 +1,4 @@
+pub mod Typed
+pub mod Operands
+pub mod Operators
+pub mod Places
