@@ -1,0 +1,12 @@
+pub mod Small
+pub mod Parts
+pub mod Members
+pub mod Values
+pub mod Places
+pub mod Calls
+pub mod Actions
+pub mod Cases
+pub mod Works
+pub mod Asks
+pub mod Fitting
+pub mod Controls
