@@ -1,3 +1,5 @@
 pub mod Sizes
 pub mod Members
 pub mod Sound
+pub mod Going
+pub mod Terms

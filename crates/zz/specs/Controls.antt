@@ -62,8 +62,11 @@ abbrev pub scope : Program → FunctionRow → ℕ → Scope
 scope p f iterators = record { program = p; function = f; iterators = iterators }
 
 -- it holds of the function of that number, for some number of iterators
-abbrev pub In : Program → ℕ → (Scope → Type 0) → Type 0
-In p number T = (f : FunctionRow) × ((iterators : ℕ) × ((function_at p number ≡ Some f) × T (scope p f iterators)))
+pub record In (p : Program) (number : ℕ) (T : Scope → Type 0) : Type 0 where
+  pub function : FunctionRow
+  pub iterators : ℕ
+  pub is : function_at p number ≡ Some function
+  pub term : T (scope p function iterators)
 
 -- a statement that stands somewhere in a body
 abbrev pub Stands : TStmt → Scope → Type 0
