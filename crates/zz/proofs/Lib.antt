@@ -3,3 +3,5 @@ pub mod Members
 pub mod Sound
 pub mod Going
 pub mod Terms
+pub mod Statements
+pub mod Doing

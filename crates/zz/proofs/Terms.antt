@@ -140,13 +140,13 @@ module _ (p : Program) (W : IsWellTyped p) (n : ℕ) where
 
   -- ---- calls
 
-  small_value : (e : TExpr) → In p n (λ s. IsValue s e) → IsSmall p (type_of e)
+  pub small_value : (e : TExpr) → In p n (λ s. IsValue s e) → IsSmall p (type_of e)
   small_value e x = value_small p W n x.function x.iterators x.is e x.term
 
-  sound_value : (e : TExpr) → In p n (λ s. IsValue s e) → is_sound p.aggregates (type_of e) ≡ true
+  pub sound_value : (e : TExpr) → In p n (λ s. IsValue s e) → is_sound p.aggregates (type_of e) ≡ true
   sound_value e x = value_sound p W n x.function x.iterators x.is e x.term
 
-  sound_place : (place : TPlace) → In p n (λ s. IsPlace s place) → is_sound p.aggregates (place_type place) ≡ true
+  pub sound_place : (place : TPlace) → In p n (λ s. IsPlace s place) → is_sound p.aggregates (place_type place) ≡ true
   sound_place place x = place_sound p W n x.function x.iterators x.is place x.term
 
   -- an object before a function's name is well typed, and so is the member that its path leads to
