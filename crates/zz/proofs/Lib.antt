@@ -5,3 +5,4 @@ pub mod Going
 pub mod Terms
 pub mod Statements
 pub mod Doing
+pub mod Working
