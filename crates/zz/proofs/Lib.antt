@@ -6,3 +6,5 @@ pub mod Terms
 pub mod Statements
 pub mod Doing
 pub mod Working
+pub mod Keeping
+pub mod Rooms

@@ -140,7 +140,7 @@ begun_is p W R number words = on (function_at p number) refl
           term = (record { number = number; breaks = 0; loops = 0; labels = no_labels }, ((W.functions number f e).body, R.iterators number f e));
         }, tt)
 
-enters_it : (p : Program) → IsWellTyped p → HasRoom p → (number : ℕ) (words : List ℕ) (c : Control) (frames : List Frame) (privates : List ℕ)
+pub enters_it : (p : Program) → IsWellTyped p → HasRoom p → (number : ℕ) (words : List ℕ) (c : Control) (frames : List Frame) (privates : List ℕ)
     → AllByRecursion (FrameIs p) c.frames → AllByRecursion (FrameIs p) frames → NextIs p (enters p number words c frames privates)
 enters_it p W R number words c frames privates K below =
     either p (has_room p number frames) (Moves (record { entering = None; frames = begun p number words ∷ frames }) privates)
@@ -454,7 +454,7 @@ scanned_step (Scanned at pieces arguments text) h K x =
 scanned_step _ h K x = absurd x
 
 module _ (p : Program) (W : IsWellTyped p) (R : HasRoom p) where
-  frame_steps : (items : List Item) (f : Frame) (below : List Frame) (privates : List ℕ) → TopIs p f items → AllByRecursion (FrameIs p) below
+  pub frame_steps : (items : List Item) (f : Frame) (below : List Frame) (privates : List ℕ) → TopIs p f items → AllByRecursion (FrameIs p) below
       → NextIs p (step_frame p items f below privates)
   frame_steps [] f below privates K B =
       ends_it (here p (line_of_name (function_at p f.function)) (record f { items = [] }) below privates) (default_of p (function_at p f.function)) (tt, B)

@@ -51,7 +51,7 @@ abbrev mutual
 -- What the typing rules leave open. The blocks at the start lie below 2^32, as they do where there is a first world in a
 -- region of at most 256 MiB; the values of functions' names are words; and statements have few iterators.
 pub record HasRoom (p : Program) : Type 0 where
-  pub blocks : (n : ℕ) → n < length (block_sizes p) → block_place p n < 2 ^ 32
+  pub blocks : (n : ℕ) → n ≤ length (block_sizes p) → block_place p n < 2 ^ 32
   pub functions : length p.functions ≤ 2 ^ 28
   pub iterators : (number : ℕ) (f : FunctionRow) → function_at p number ≡ Some f → HasFewIterators f.body
 
