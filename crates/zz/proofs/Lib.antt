@@ -8,3 +8,4 @@ pub mod Doing
 pub mod Working
 pub mod Keeping
 pub mod Rooms
+pub mod Runs
