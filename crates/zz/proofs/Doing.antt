@@ -1,6 +1,6 @@
 -- What a statement does is work that is known too.
-use Rattle.std.proofs.Common.{◌≡◌, ℕ, zero, suc, ◌+◌, ◌<◌, ◌≤◌, ◌==◌, Bool, true, false, if◌then◌else◌, List, [], ◌∷◌, ◌++◌, map, length, Option, Some, None, refl, sym, ap, ◌∙◌, subst, arith}
-use Rattle.std.specs.Prelude.{⊤, ◌^◌, All, slice_get, slice_index, unwrap_or}
+use Rattle.std.proofs.Common.{◌≡◌, ℕ, true, false, List, [], ◌∷◌, ◌++◌, map, length, Option, Some, None, refl, sym, ap, ◌∙◌}
+use Rattle.std.specs.Prelude.{unwrap_or}
 use Rattle.std.specs.List.{AllByRecursion, flat_map}
 use Rattle.std.proofs.lemmas.List.Elements.{recursion_from_All}
 use Rattle.al_event.specs.declared.act.Act.TheVariants as act
@@ -8,34 +8,28 @@ use Rattle.al_typed.specs.declared.ty.Ty.{Ty}
 use Rattle.al_typed.specs.declared.ty.Ty.TheOpen.{Ty-F}
 use Rattle.al_typed.specs.declared.ty.Ty.TheViews.{out-Ty, roll-Ty, roll-out-Ty}
 use Rattle.al_typed.specs.declared.ty.Ty.TheVariants as ty
-use Rattle.al_typed.specs.declared.program.Function.{Function as FunctionRow}
 use Rattle.al_typed.specs.declared.program.Program.{Program}
 use Rattle.al_typed.specs.declared.expression.TExpr.{TExpr}
 use Rattle.al_typed.specs.declared.expression.TPlace.{TPlace}
 use Rattle.al_typed.specs.declared.expression.TPlace.TheVariants as place
 use Rattle.al_typed.specs.declared.statement.TBounds.{TBounds}
 use Rattle.al_typed.specs.declared.statement.TInitializer.{TInitializer}
-use Rattle.al_typed.specs.declared.statement.TCommunication.{TCommunication}
-use Rattle.al_typed.specs.declared.statement.TCommunication.TheVariants as talk
-use Rattle.al_typed.specs.declared.statement.TStmt.{TStmt, Empty, Block', Declare, Value, If', Switch', Case, Default, Alt', AltCase, Par, Raise, Goto, Return, Become, Break, Continue, Alloc, Unalloc, Check, Proc, Task, Held-TStmt-If-3, Row_of-TStmt, end_of-TStmt, more_of-TStmt}
-use Rattle.al_typed.specs.declared.statement.TStmt as stmt
+use Rattle.al_typed.specs.declared.statement.TStmt.{TStmt, Empty, Block', Declare, Value, If', Switch', Case, Default, Alt', AltCase, Par, Raise, Goto, Return, Become, Break, Continue, Alloc, Unalloc, Check, Proc, Task, end_of-TStmt, more_of-TStmt}
 use Rattle.al_typed.specs.StatementForms as part
 use Rattle.al_typed.specs.Typed.{type_of, place_type}
-use Rattle.al_typed.specs.WellTyped.{IsWellTyped, IsValue, IsPlace, IsTarget, IsStatement, AreStatements, IsOther, IsInitializer, AreBounds, IsOptionalValue, IsCall, Allocates, GivesBack, Communicates, IsAltCase, CaseLabels, no_labels, switch_labels, alt_labels, Nest, Scope, inside, in_loop, in_cases, is_sound}
-use Rattle.al_meaning.specs.Places.{function_at, words_in}
-use Rattle.al_meaning.specs.Items.{Found, Work, Eval, Find, Aim, Answered, Give, Drop, Unary, Negate, Binary, AndThen, OrElse, Truth, Advance, AdvanceCounted, Between, Convert, Part, Join, Point, Index, Within, AddressOf, Read, Look, Fetch, Fetched, Save, Put, Write, Assign, Update, Step, Clear, PassPlace, PassPointer, PassPart, Invoke, InvokePointer, Enter, InvokeInstead, Replace, TakeBlock, SetBlock, StoreParameter, Returns, CountReturn, Leave, Gather, Compose, Scan, Scanned, Terminates, Receives, Received, Sends, CanReceives, CanSends, Allocate, Unallocate, StartProc, StartTask, Do, Choose, Test, WhileTest, WhileAgain, DoCondition, DoTest, ForCondition, ForTest, ForNext, ForAgain, Bound, Iterate, NextTurn, Select, AltTalk, AltWent, CasesEnd, Item, Frame, Entering, Control}
-use Rattle.al_meaning.specs.Parts.{Border, Inside, LoopEnd, BodyEnd, border, other_of, item, to_do, line_of, statements, behind_bodies, next_of_loop, going_on, going_on_in, going_on_in_other, behind_case, behind_default, Branching, branchings, first_of_two}
-use Rattle.al_meaning.specs.Here.{Here, control_at, function_here, moves, with_items}
+use Rattle.al_typed.specs.WellTyped.{IsWellTyped, IsValue, IsPlace, IsStatement, IsInitializer, AreBounds, IsOptionalValue, IsCall, Allocates, GivesBack, inside, in_loop, is_sound}
+use Rattle.al_meaning.specs.Items.{Work, Eval, Answered, InvokeInstead, Returns, StartProc, StartTask, Choose, Test, WhileTest, DoCondition, ForCondition, Bound, Select, AltTalk}
+use Rattle.al_meaning.specs.Parts.{other_of, item, to_do, statements, behind_bodies, next_of_loop, branchings}
+use Rattle.al_meaning.specs.Here.{Here, function_here}
 use Rattle.al_meaning.specs.Calls.{call_work, evaluated}
-use Rattle.al_meaning.specs.Evaluate.{alt_exprs, and_dropped, communication_exprs, communications, goes_into, went_work}
-use Rattle.al_meaning.specs.Execute.{starts, starts_then, allocation_work, bounds_exprs, branch_start, cases_of, do_statement, initializer_work, items_from, jumps, optionally, selects, select, target_items, unallocation_work}
-use Rattle.zz.specs.Small.{IsSmall}
+use Rattle.al_meaning.specs.Evaluate.{alt_exprs, and_dropped, communications}
+use Rattle.al_meaning.specs.Execute.{starts, starts_then, allocation_work, bounds_exprs, branch_start, do_statement, initializer_work, jumps, optionally, target_items, unallocation_work}
 use Rattle.zz.specs.Actions.{AllocationFits}
-use Rattle.zz.specs.Controls.{HasFewIterators, HaveFewIterators, OtherHasFewIterators, HasRoom, In, OtherStands, Stands, ItemIs, WorkIs, NextIs, scope}
+use Rattle.zz.specs.Controls.{HasRoom, In, Stands, WorkIs, NextIs}
 use Rattle.zz.proofs.Sizes.{few_words, sound_small, sound_pointer, sound_sent}
-use Rattle.zz.proofs.Going.{HereIs, WorksAre, asks_it, does_it, does_items, each_append, each_flat, goes_on, items_are, lost_it}
-use Rattle.zz.proofs.Terms.{call_works, dropped_works, leaves_small, narrow, small_value, sound_place, sound_value}
-use Rattle.zz.proofs.Statements.{BodyStands, body_items, other_stands, FoundIs, found_items, from_body, behind_is, next_is, alt_works, alt_branches_are}
+use Rattle.zz.proofs.Going.{HereIs, WorksAre, asks_it, does_it, does_items, each_append, goes_on}
+use Rattle.zz.proofs.Terms.{call_works, dropped_works, narrow, small_value, sound_place}
+use Rattle.zz.proofs.Statements.{body_items, other_stands, found_items, from_body, behind_is, next_is, alt_works, alt_branches_are}
 
 initializer_works : (p : Program) → IsWellTyped p → (n : ℕ) (is : List TInitializer) → In p n (λ s. AllByRecursion (IsInitializer s) is) → WorksAre p n (flat_map initializer_work is)
 unfolding IsPlace

@@ -1,6 +1,6 @@
 -- Where a step goes on: with work laid down, with what was found taken, or with an answer.
-use Rattle.std.proofs.Common.{◌≡◌, ℕ, zero, suc, Bool, true, false, List, [], ◌∷◌, ◌++◌, map, Option, Some, None, refl, inl, inr}
-use Rattle.std.specs.Prelude.{if◌then◌else◌, ⊤}
+use Rattle.std.proofs.Common.{ℕ, zero, suc, Bool, true, false, List, [], ◌∷◌, ◌++◌, map, Option, Some, None, inl}
+use Rattle.std.specs.Prelude.{if◌then◌else◌}
 use Rattle.std.specs.List.{AllByRecursion, flat_map}
 use Rattle.al_base.specs.declared.trap.Trap.{Trap}
 use Rattle.al_event.specs.declared.act.Act.{Act}
@@ -10,7 +10,7 @@ use Rattle.al_world.specs.Control.{fitted}
 use Rattle.al_typed.specs.declared.program.Program.{Program}
 use Rattle.al_meaning.specs.Items.{Found, Words, Address, Local, Private, Nowhere, Work, Answered, Item, Frame, Entering, Control}
 use Rattle.al_meaning.specs.Parts.{item}
-use Rattle.al_meaning.specs.Here.{Here, Next, asks, at_address, control_at, does, finds, gives, lost, moves, place_taken, places_before, traps, turns, value_taken, with_address, with_found, with_items, with_place, with_two, with_value, with_values, with_work, words_before}
+use Rattle.al_meaning.specs.Here.{Here, Next, asks, at_address, control_at, does, finds, gives, lost, moves, place_taken, places_before, traps, turns, value_taken, with_address, with_found, with_items, with_place, with_two, with_value, with_work, words_before}
 use Rattle.al_meaning.specs.Calls.{with_given}
 use Rattle.al_meaning.specs.Meaning.{resume}
 use Rattle.zz.specs.Controls.{WorkIs, ItemIs, FrameIs, TopIs, FramesAre, ControlIs, WaitIs, NextIs}

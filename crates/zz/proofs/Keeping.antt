@@ -2,10 +2,9 @@
 use Rattle.std.proofs.Common.{◌≡◌, ℕ, zero, suc, ◌-◌, List, [], ◌∷◌, Option, Some, None, refl, sym, subst}
 use Rattle.std.specs.Prelude.{⊤}
 use Rattle.std.specs.List.{AllByRecursion}
-use Rattle.al_event.specs.declared.act.Act.{Act}
 use Rattle.al_event.specs.declared.act.Act.TheVariants as act
 use Rattle.al_event.specs.declared.act.Start.{Start}
-use Rattle.al_world.specs.Control.{Asked, fitted}
+use Rattle.al_world.specs.Control.{fitted}
 use Rattle.al_world.specs.Turns.{Move, Moves, Turns, Asks, to_turn, with_turns}
 use Rattle.al_typed.specs.declared.program.Program.{Program}
 use Rattle.al_typed.specs.WellTyped.{IsWellTyped}

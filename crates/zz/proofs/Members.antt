@@ -1,8 +1,8 @@
 -- Members lie in their aggregates, and shared locals in their blocks.
-use Rattle.std.proofs.Common.{◌≡◌, ℕ, zero, suc, ◌+◌, ◌<◌, ◌≤◌, max, Bool, true, false, List, [], ◌∷◌, ◌++◌, map, length, take, drop, Option, Some, None, refl, ap, sym, ◌∙◌, subst, arith}
-use Rattle.std.specs.Prelude.{◌^◌, if◌then◌else◌, All, slice_get, slice_index, unwrap_or, filter, fold, ⊤}
+use Rattle.std.proofs.Common.{◌≡◌, ℕ, zero, suc, ◌+◌, ◌≤◌, Bool, true, false, List, [], ◌∷◌, ◌++◌, map, length, take, drop, Option, Some, None, refl, ap, sym, ◌∙◌, subst, arith}
+use Rattle.std.specs.Prelude.{if◌then◌else◌, All, slice_get, slice_index, unwrap_or, fold}
 use Rattle.std.specs.List.{AllByRecursion}
-use Rattle.std.proofs.lemmas.Bool.{and_parts, leb-true}
+use Rattle.std.proofs.lemmas.Bool.{and_parts}
 use Rattle.std.proofs.lemmas.List.{take-append-drop}
 use Rattle.std.proofs.lemmas.List.Elements.{recursion_from_All}
 use Rattle.al_typed.specs.declared.ty.Ty.{Ty}
@@ -11,16 +11,15 @@ use Rattle.al_typed.specs.declared.ty.Ty.TheVariants as ty
 use Rattle.al_typed.specs.declared.ty.Ty.TheViews.{out-Ty, roll-Ty, roll-out-Ty}
 use Rattle.al_typed.specs.declared.program.Aggregate.{Aggregate}
 use Rattle.al_typed.specs.declared.program.Local.{Local}
-use Rattle.al_typed.specs.declared.program.Function.{Function as FunctionRow}
 use Rattle.al_typed.specs.declared.program.Program.{Program}
 use Rattle.al_typed.specs.Types.{is_complete}
-use Rattle.al_typed.specs.Layout.{Layout, Run, Extent, Member, IsLaidOut, layout, size_of, members_layout, in_order, over_each_other, offsets_from, rounded, followed, widened, begun, member, further, beyond, row_of, row_at, number_at, members_of, member_offsets}
-use Rattle.al_typed.specs.WellTyped.{IsWellTyped, IsFunction, LeadsTo, is_sound, is_stored, shared_types}
+use Rattle.al_typed.specs.Layout.{Layout, Run, Extent, Member, IsLaidOut, layout, size_of, members_layout, over_each_other, offsets_from, rounded, followed, widened, begun, member, further, beyond, row_of, row_at, number_at, members_of, member_offsets}
+use Rattle.al_typed.specs.WellTyped.{IsWellTyped, is_sound, is_stored, shared_types}
 use Rattle.al_typed.proofs.CappedLemmas.{rounded_above}
 use Rattle.al_typed.proofs.Completeness.{layout-stays}
-use Rattle.al_typed.proofs.Fitting.{IsFit, AllFit, layout_fits, layouts_fit}
+use Rattle.al_typed.proofs.Fitting.{AllFit, layouts_fit}
 use Rattle.al_typed.proofs.Placing.{aggregate-members, in_order-end}
-use Rattle.al_meaning.specs.Places.{block_size, function_at, local_offset, locals_of, path_offset, shared_layouts}
+use Rattle.al_meaning.specs.Places.{block_size, local_offset, shared_layouts}
 
 -- ---- one after another
 

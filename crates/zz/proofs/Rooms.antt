@@ -1,9 +1,9 @@
 -- What is known of work gives that its numbers fit in words.
-use Rattle.std.proofs.Common.{◌≡◌, ℕ, zero, suc, ◌+◌, ◌-◌, ◌*◌, ◌<◌, ◌≤◌, Bool, true, false, if◌then◌else◌, List, [], ◌∷◌, ◌++◌, map, length, length-append, take, Option, Some, None, refl, sym, ap, ap₂, ◌∙◌, subst, arith, inl, inr}
-use Rattle.std.specs.Prelude.{⊤, ◌^◌, ◌⊎◌, All, IsSome, filter, slice_get, slice_index}
-use Rattle.std.specs.List.{AllByRecursion, flat_map}
+use Rattle.std.proofs.Common.{◌≡◌, ℕ, zero, suc, ◌+◌, ◌-◌, ◌*◌, ◌<◌, ◌≤◌, Bool, true, false, if◌then◌else◌, List, [], ◌∷◌, map, length, length-append, take, Option, Some, None, refl, sym, ap, ap₂, ◌∙◌, subst, arith, inl, inr}
+use Rattle.std.specs.Prelude.{◌^◌, All, IsSome, filter, slice_get}
+use Rattle.std.specs.List.{AllByRecursion}
 use Rattle.std.proofs.lemmas.Bool.{and_parts, leb-true}
-use Rattle.std.proofs.lemmas.List.{length-map, take_all}
+use Rattle.std.proofs.lemmas.List.{length-map}
 use Rattle.std.proofs.lemmas.List.Elements.{All-from_recursion, All-nil, All-weaker}
 use Rattle.std.proofs.lemmas.Option.{slice_get_within}
 use Rattle.al_base.specs.Arith.{width_of}
@@ -13,10 +13,8 @@ use Rattle.al_typed.specs.declared.ty.Ty.TheViews.{out-Ty}
 use Rattle.al_typed.specs.declared.ty.Ty.TheVariants as ty
 use Rattle.al_typed.specs.declared.ty.Ty.TheBlock.{hidden-the_row-Ty-0, shown-the_row-Ty-0}
 use denote.Hole.Carrier.{hidden, shown, out}
-use Rattle.al_typed.specs.declared.expression.Change.{Change}
 use Rattle.al_typed.specs.declared.expression.Passed.{Passed}
-use Rattle.al_typed.specs.declared.expression.Passed.TheVariants as passed
-use Rattle.al_typed.specs.declared.expression.TExpr.{TExpr, Constant, Text, Nil, Function, SizeofType, Tuple', Call', CallPointer', Print', Sequence', Iterator, Held-TExpr-Call-2, None', Some', end_of-TExpr, more_of-TExpr, end_of-TReceiver, more_of-TReceiver}
+use Rattle.al_typed.specs.declared.expression.TExpr.{TExpr, Constant, Text, Function, SizeofType, Call', Held-TExpr-Call-2, None', Some', end_of-TReceiver, more_of-TReceiver}
 use Rattle.al_typed.specs.declared.expression.TPlace.{TPlace, Local as Local_, Outer, Global}
 use Rattle.al_typed.specs.declared.program.Function.{Function as FunctionRow}
 use Rattle.al_typed.specs.declared.program.Global.{Global as GlobalRow}
@@ -26,18 +24,18 @@ use Rattle.al_typed.specs.declared.statement.TCommunication.{TCommunication}
 use Rattle.al_typed.specs.declared.statement.TCommunication.TheVariants as talk
 use Rattle.al_typed.specs.declared.statement.TStmt.{TStmt, Alt', AltCase, Become, Proc, Task, Row_of-TStmt, end_of-TStmt, more_of-TStmt}
 use Rattle.al_typed.specs.ExpressionForms as form
-use Rattle.al_typed.specs.Layout.{Layout, Member, in_order, layout, member, size_of}
+use Rattle.al_typed.specs.Layout.{in_order, size_of}
 use Rattle.al_typed.specs.Typed.{type_of, place_type}
-use Rattle.al_typed.specs.WellTyped.{IsWellTyped, IsLocalOf, IsValue, IsPlace, IsGiven, Gives, IsStatement, IsCall, Communicates, LeadsTo, Scope, alt_cases, is_sound, is_stored, shared_types}
-use Rattle.al_meaning.specs.Places.{block_place, block_sizes, block_size, function_at, function_address, global_place, is_shared_global, local_offset, locals_of, member_at, path_offset, shared_before, text_place, words_in}
+use Rattle.al_typed.specs.WellTyped.{IsWellTyped, IsLocalOf, IsValue, IsPlace, IsGiven, Gives, IsStatement, IsCall, Communicates, LeadsTo, alt_cases, is_sound, is_stored}
+use Rattle.al_meaning.specs.Places.{block_sizes, block_size, function_at, global_place, is_shared_global, local_offset, locals_of, member_at, path_offset, shared_before, text_place}
 use Rattle.al_meaning.specs.Shown.{kind_of}
-use Rattle.al_meaning.specs.Items.{Found, Words, Work, Eval, Find, Aim, Answered, Give, Drop, Unary, Negate, Binary, AndThen, OrElse, Truth, Advance, AdvanceCounted, Between, Convert, Part, Join, Point, Index, Within, AddressOf, Read, Look, Fetch, Fetched, Save, Put, Write, Assign, Update, Step, Clear, PassPlace, PassPointer, PassPart, Invoke, InvokePointer, Enter, InvokeInstead, Replace, TakeBlock, SetBlock, StoreParameter, Returns, CountReturn, Leave, Gather, Compose, Scan, Scanned, Terminates, Receives, Received, Sends, CanReceives, CanSends, Allocate, Unallocate, StartProc, StartTask, Do, Choose, Test, WhileTest, WhileAgain, DoCondition, DoTest, ForCondition, ForTest, ForNext, ForAgain, Bound, Iterate, NextTurn, Select, AltTalk, AltWent, CasesEnd, Item, Frame, Entering, Control, most_turns}
+use Rattle.al_meaning.specs.Items.{Work, Eval, Find, Part, Read, Save, Update, Step, Clear, PassPart, Enter, TakeBlock, StoreParameter, Scanned, Receives, Received, Sends, Allocate, Do, Bound, Iterate, AltTalk, AltWent, Item, Frame, Entering, Control, most_turns}
 use Rattle.al_meaning.specs.Parts.{receiver_of, Branching, branchings}
 use Rattle.al_world.specs.Turns.{Moves, Turns, Asks}
 use Rattle.al_meaning.specs.Here.{Here, Next, here, pointee}
 use Rattle.al_meaning.specs.Step.{private_step}
 use Rattle.al_meaning.specs.Weight.{control_weight}
-use Rattle.al_meaning.specs.Evaluate.{alt_exprs, communication_exprs, communications}
+use Rattle.al_meaning.specs.Evaluate.{alt_exprs, communications}
 use Rattle.al_meaning.specs.Execute.{cases_of}
 use Rattle.zz.specs.Small.{IsSmall}
 use Rattle.zz.specs.Members.{Leads}
@@ -47,9 +45,9 @@ use Rattle.zz.specs.Calls.{AreSmall, BeginFits, BlockFits, EndFits}
 use Rattle.zz.specs.Cases.{CasesFit, TalkFits, TalksFit, WentFits}
 use Rattle.zz.specs.Works.{StatementFits, WorkFits, FrameFits, FramesFit, EnteringFits, StepFits}
 use Rattle.zz.specs.Asks.{AskFits, TurnFits, TurnsFit, turn_from}
-use Rattle.zz.specs.Controls.{HasRoom, In, scope, Stands, WorkIs, ItemIs, FrameIs, IsScanned, TopIs, FramesAre, ControlIs, NextIs}
+use Rattle.zz.specs.Controls.{HasRoom, In, scope, Stands, WorkIs, IsScanned, TopIs, FramesAre, ControlIs, NextIs}
 use Rattle.zz.proofs.Sizes.{few_words, sound_small, sound_sent}
-use Rattle.zz.proofs.Members.{all_at, local_within, path_lies}
+use Rattle.zz.proofs.Members.{local_within, path_lies}
 use Rattle.zz.proofs.Sound.{returns_sound, local_sound, target_is}
 use Rattle.zz.proofs.Terms.{narrow, pointee_is, pointee_sound, small_value, sound_value, sound_place}
 use Rattle.zz.proofs.Keeping.{Keeps, all_fit, step_keeps}

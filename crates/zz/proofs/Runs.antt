@@ -1,10 +1,9 @@
 -- What is known of controls is known of those of all tasks in a run.
-use Rattle.std.proofs.Common.{◌≡◌, ℕ, zero, suc, Bool, true, false, if◌then◌else◌, List, [], ◌∷◌, Option, Some, None, refl, subst}
+use Rattle.std.proofs.Common.{◌≡◌, ℕ, Bool, true, false, if◌then◌else◌, List, [], ◌∷◌, Option, Some, None, subst}
 use Rattle.std.specs.Prelude.{⊤, option_map, option_and_then}
-use Rattle.al_event.specs.declared.act.Act.{Act}
 use Rattle.al_event.specs.declared.entry.Entry.{Entry}
 use Rattle.al_world.specs.Control.{Asked}
-use Rattle.al_world.specs.World.{TaskName, Shared, Held, Absent, Goes, Waits, World, Effect, Told, Answered, Begins, at_task, same_task, told, told_one}
+use Rattle.al_world.specs.World.{TaskName, Held, Absent, Goes, Waits, World, Effect, Told, Answered, Begins, at_task, same_task, told, told_one}
 use Rattle.al_world.specs.Actions.{first_task, performs}
 use Rattle.al_world.specs.Step.{after, opening, run_from, step, step_asked, step_held, task_of}
 use Rattle.al_world.specs.Step as world

@@ -1,27 +1,21 @@
 -- Types of well-typed programs are small, and so are their members.
-use Rattle.std.proofs.Common.{◌≡◌, ℕ, zero, suc, ◌+◌, ◌<◌, ◌≤◌, Bool, true, false, ◌&&◌, List, [], ◌∷◌, ◌++◌, map, length, take, Option, Some, None, refl, ap, sym, ◌∙◌, subst, arith, get_or}
-use Rattle.std.specs.Prelude.{◌^◌, if◌then◌else◌, not, All, slice_get, slice_index, unwrap_or, filter, fold, ⊤, max}
+use Rattle.std.proofs.Common.{◌≡◌, ℕ, ◌<◌, ◌≤◌, Bool, true, false, List, length, refl, ap, arith}
+use Rattle.std.specs.Prelude.{◌^◌, if◌then◌else◌}
 use Rattle.std.proofs.lemmas.Bool.{and_parts, leb-true}
-use Rattle.std.proofs.lemmas.List.Elements.{All-get_or}
-use Rattle.std.proofs.lemmas.Option.{slice_get_within, slice_get-get_or}
 use Rattle.al_base.specs.declared.arith.Kind.{Kind}
 use Rattle.al_base.specs.declared.arith.Kind.TheVariants.{Byte, Sint, Usint, Int, Uint, Lint, Ulint}
-use Rattle.al_typed.specs.declared.ty.Ty.{Ty, out-Ty, Void, Integer, Pointer', Array', Chan', Tuple', Aggregate, Function', Row_of-Ty, end_of-Ty, more_of-Ty, items-the_row-Ty, items_hidden-the_row-Ty-1}
-use Rattle.al_typed.specs.declared.ty.Ty.TheBlock.{hidden-the_row-Ty-0, hidden-the_row-Ty-1}
+use Rattle.al_typed.specs.declared.ty.Ty.{Ty, Void, Integer, Pointer', Array', Chan', Tuple', Aggregate, Function', end_of-Ty, more_of-Ty}
+use Rattle.al_typed.specs.declared.ty.Ty.TheBlock.{hidden-the_row-Ty-0}
 use denote.Hole.Carrier.{hidden}
-use Rattle.al_typed.specs.declared.ty.Ty.TheOpen.{Ty-F}
 use Rattle.al_typed.specs.declared.ty.Ty.TheVariants as ty
 use Rattle.al_typed.specs.declared.program.Aggregate.{Aggregate as AggregateRow}
-use Rattle.al_typed.specs.declared.program.Local.{Local as LocalRow}
-use Rattle.al_typed.specs.declared.program.Function.{Function as FunctionRow}
 use Rattle.al_typed.specs.declared.program.Program.{Program}
-use Rattle.al_typed.specs.Types.{bytes_of, is_array, is_complete, is_whole, is_void}
-use Rattle.al_typed.specs.Layout.{Layout, Member, IsLaidOut, nothing, of_bytes, layout, layout_of, size_of, units_of, words_of, in_order, offsets_from, rounded, followed, begun}
-use Rattle.al_typed.specs.Typed.{function_type, parameter_types, local_types}
-use Rattle.al_typed.specs.WellTyped.{IsWellTyped, is_sound, are_sound, is_small, is_stored, shared_types}
-use Rattle.al_typed.proofs.Layouts.{layout-Void, layout-Integer, layout-Pointer, layout-Array, layout-Chan, layout-Tuple, layout-Function}
-use Rattle.al_typed.proofs.Fitting.{IsFit, layout_fits, layouts_fit}
-use Rattle.al_meaning.specs.Places.{block_size, function_at, local_offset, locals_of, path_offset, shared_layouts, words_in}
+use Rattle.al_typed.specs.Types.{bytes_of, is_array}
+use Rattle.al_typed.specs.Layout.{Layout, nothing, of_bytes, layout, layout_of, size_of, units_of, words_of}
+use Rattle.al_typed.specs.WellTyped.{is_sound, is_small}
+use Rattle.al_typed.proofs.Layouts.{layout-Void, layout-Integer, layout-Pointer, layout-Chan}
+use Rattle.al_typed.proofs.Fitting.{layout_fits}
+use Rattle.al_meaning.specs.Places.{words_in}
 use Rattle.zz.specs.Small.{IsSmall}
 
 -- ---- types that the rules leave are small

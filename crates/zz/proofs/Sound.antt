@@ -1,6 +1,6 @@
 -- The types of well-typed terms are sound.
-use Rattle.std.proofs.Common.{◌≡◌, ℕ, zero, suc, ◌+◌, ◌<◌, ◌≤◌, Bool, true, false, ◌&&◌, ◌||◌, List, [], ◌∷◌, ◌++◌, map, length, take, Option, Some, None, refl, ap, sym, ◌∙◌, subst, arith, inl, inr}
-use Rattle.std.specs.Prelude.{◌^◌, not, All, slice_get, ⊤, ◌⊎◌}
+use Rattle.std.proofs.Common.{◌≡◌, ℕ, zero, suc, Bool, true, false, ◌||◌, List, [], ◌∷◌, map, take, Some, refl, ap, sym, ◌∙◌, subst, inl, inr}
+use Rattle.std.specs.Prelude.{not, slice_get}
 use Rattle.std.specs.List.{AllByRecursion}
 use Rattle.std.proofs.lemmas.Bool.{and_parts, and_from}
 use Rattle.std.proofs.lemmas.List.Elements.{recursion_from_All}
@@ -10,19 +10,16 @@ use Rattle.al_typed.specs.declared.ty.Ty.TheViews.{out-Ty}
 use denote.Hole.Carrier.{hidden, out}
 use Rattle.al_typed.specs.declared.ty.Ty.TheVariants as ty
 use Rattle.al_typed.specs.declared.program.Aggregate.{Aggregate as AggregateRow}
-use Rattle.al_typed.specs.declared.program.Global.{Global as GlobalRow}
 use Rattle.al_typed.specs.declared.program.Local.{Local as LocalRow}
 use Rattle.al_typed.specs.declared.program.Function.{Function as FunctionRow}
 use Rattle.al_typed.specs.declared.program.Program.{Program}
-use Rattle.al_typed.specs.declared.expression.TExpr.{TExpr, Constant, Text, Nil, Function, SizeofType, Tuple', Call', CallPointer', Print', Sequence', Iterator, end_of-TExpr, more_of-TExpr, Row_of-TTarget, end_of-TTarget, more_of-TTarget}
+use Rattle.al_typed.specs.declared.expression.TExpr.{TExpr, Constant, Text, Nil, Function, SizeofType, Tuple', Call', CallPointer', Print', Sequence', Iterator, end_of-TExpr, more_of-TExpr}
 use Rattle.al_typed.specs.declared.expression.TPlace.{TPlace, Local, Outer, Global}
-use Rattle.al_typed.specs.declared.expression.TTarget.{TTarget, Dropped, Parts'}
 use Rattle.al_typed.specs.ExpressionForms as form
-use Rattle.al_typed.specs.Types.{is_array, is_complete, is_whole, is_void}
+use Rattle.al_typed.specs.Types.{is_array, is_whole, is_void}
 use Rattle.al_typed.specs.Typed.{type_of, place_type, function_type, parameter_types}
-use Rattle.al_typed.specs.WellTyped.{IsWellTyped, IsFunction, IsGlobal, IsLocal, IsLocalOf, IsOuter, IsPlace, IsTarget, IsValue, AreTargets, LeadsTo, Scope, is_sound, are_sound, is_stored}
+use Rattle.al_typed.specs.WellTyped.{IsWellTyped, IsGlobal, IsLocalOf, IsPlace, IsValue, LeadsTo, is_sound, are_sound}
 use Rattle.al_meaning.specs.Places.{function_at}
-use Rattle.al_meaning.specs.Evaluate.{leaves_of, leaves_of_all}
 use Rattle.zz.specs.Small.{IsSmall}
 use Rattle.zz.specs.Controls.{scope}
 use Rattle.zz.proofs.Sizes.{sound_small, sound_pointer, sound_element, sound_sent}

@@ -1,6 +1,6 @@
 -- The work of places, targets and expressions is that of well-typed ones.
-use Rattle.std.proofs.Common.{◌≡◌, ℕ, zero, suc, ◌+◌, Bool, true, false, if◌then◌else◌, List, [], ◌∷◌, ◌++◌, map, length, Option, Some, None, refl, sym, ap, ◌∙◌, subst}
-use Rattle.std.specs.Prelude.{⊤, slice_index}
+use Rattle.std.proofs.Common.{◌≡◌, ℕ, ◌+◌, Bool, true, false, if◌then◌else◌, List, [], ◌∷◌, ◌++◌, map, length, Option, Some, None, refl, sym, ap, ◌∙◌, subst}
+use Rattle.std.specs.Prelude.{slice_index}
 use Rattle.std.specs.List.{AllByRecursion, flat_map}
 use Rattle.al_typed.specs.declared.ty.Ty.{Ty}
 use Rattle.al_typed.specs.declared.ty.Ty.TheOpen.{Ty-F}
@@ -8,7 +8,6 @@ use Rattle.al_typed.specs.declared.ty.Ty.TheViews.{out-Ty, roll-Ty, roll-out-Ty}
 use Rattle.al_typed.specs.declared.ty.Ty.TheVariants as ty
 use Rattle.al_typed.specs.declared.ty.Ty.TheBlock.{hidden-the_row-Ty-0, shown-the_row-Ty-0}
 use denote.Hole.Carrier.{hidden, shown, out}
-use Rattle.al_typed.specs.declared.program.Function.{Function as FunctionRow}
 use Rattle.al_typed.specs.declared.program.Program.{Program}
 use Rattle.al_typed.specs.declared.expression.Change.{Change}
 use Rattle.al_typed.specs.declared.expression.Change.TheVariants as change
@@ -19,15 +18,14 @@ use Rattle.al_typed.specs.declared.expression.Passed.TheVariants as passed
 use Rattle.al_typed.specs.declared.expression.TExpr.{TExpr, Constant, Text, Nil, Function, SizeofType, Tuple', Call', CallPointer', Print', Sequence', Iterator, Held-TExpr-Call-2, None', Some', Row_of-TExpr, end_of-TExpr, more_of-TExpr, end_of-TReceiver, more_of-TReceiver, Row_of-TTarget, end_of-TTarget, more_of-TTarget}
 use Rattle.al_typed.specs.declared.expression.TPlace.{TPlace, Local as Local_, Outer, Global}
 use Rattle.al_typed.specs.declared.expression.TTarget.{TTarget, Dropped, Parts'}
-use Rattle.al_typed.specs.declared.expression.TReceiver.{TReceiver}
 use Rattle.al_typed.specs.ExpressionForms as form
 use Rattle.al_typed.specs.Types.{is_void}
 use Rattle.al_typed.specs.Layout.{Member, member}
 use Rattle.al_typed.specs.Typed.{type_of, place_type}
-use Rattle.al_typed.specs.WellTyped.{IsWellTyped, IsPlace, IsTarget, IsValue, AreValues, AreTargets, IsGiven, Gives, LeadsTo, Scope, Changes, is_sound, is_stored}
+use Rattle.al_typed.specs.WellTyped.{IsWellTyped, IsPlace, IsTarget, IsValue, AreValues, AreTargets, IsGiven, Gives, LeadsTo, Scope, is_sound}
 use Rattle.std.proofs.lemmas.Bool.{and_parts}
-use Rattle.al_meaning.specs.Places.{function_at, text_place, function_address, path_offset}
-use Rattle.al_meaning.specs.Items.{Found, Words, Address, Local as LocalFound, Private, Nowhere, Work, Eval, Find, Aim, Answered, Give, Drop, Unary, Negate, Binary, AndThen, OrElse, Truth, Advance, AdvanceCounted, Between, Convert, Part, Join, Point, Index, Within, AddressOf, Read, Look, Fetch, Fetched, Save, Put, Write, Assign, Update, Step, Clear, PassPlace, PassPointer, PassPart, Invoke, InvokePointer, Enter, InvokeInstead, Replace, TakeBlock, SetBlock, StoreParameter, Returns, CountReturn, Leave, Gather, Compose, Scan, Scanned, Terminates, Receives, Received, Sends, CanReceives, CanSends, Allocate, Unallocate, StartProc, StartTask, Do, Choose, Test, WhileTest, WhileAgain, DoCondition, DoTest, ForCondition, ForTest, ForNext, ForAgain, Bound, Iterate, NextTurn, Select, AltTalk, AltWent, CasesEnd, Item, Frame, Entering, Control}
+use Rattle.al_meaning.specs.Places.{text_place, function_address, path_offset}
+use Rattle.al_meaning.specs.Items.{Nowhere, Work, Eval, Find, Aim, Drop, Unary, Negate, Binary, AndThen, OrElse, Advance, AdvanceCounted, Between, Convert, Part, Join, Point, Index, Within, AddressOf, Read, Look, Assign, Update, Step, Clear, Invoke, InvokePointer, Gather, Terminates, Receives, Sends, CanReceives, CanSends}
 use Rattle.al_meaning.specs.Words.{integer_words}
 use Rattle.al_meaning.specs.Shown.{kind_of}
 use Rattle.al_meaning.specs.Parts.{exprs, targets, receiver_of}
@@ -40,8 +38,8 @@ use Rattle.zz.specs.Places.{ChangeFits}
 use Rattle.zz.specs.Controls.{In, WorkIs, NextIs, scope}
 use Rattle.zz.proofs.Sizes.{sound_small, sound_pointer}
 use Rattle.zz.proofs.Members.{path_lies}
-use Rattle.zz.proofs.Sound.{value_sound, place_sound, value_small, place_small, leads_sound, target_is}
-use Rattle.zz.proofs.Going.{HereIs, finds_it, gives_it, WorksAre, each_append, does_it, goes_on}
+use Rattle.zz.proofs.Sound.{value_sound, place_sound, value_small, place_small, target_is}
+use Rattle.zz.proofs.Going.{HereIs, finds_it, gives_it, WorksAre, each_append, does_it}
 
 -- what holds of a part where it holds of the whole
 pub narrow : {p : Program} {n : ℕ} {T U : Scope → Type 0} → In p n T → ((s : Scope) → T s → U s) → In p n U

@@ -1,13 +1,12 @@
 -- A private step from a control that is known goes to one that is.
-use Rattle.std.proofs.Common.{◌≡◌, ℕ, zero, suc, ◌+◌, ◌*◌, ◌<◌, ◌≤◌, ◌==◌, Bool, true, false, if◌then◌else◌, List, [], ◌∷◌, ◌++◌, map, length, take, drop, Option, Some, None, refl, sym, ap, ◌∙◌, subst, arith, inl, inr}
-use Rattle.std.specs.Prelude.{⊤, ◌^◌, ◌%◌, ◌⊎◌, not, nat_lt, slice_get, slice_index, unwrap_or}
-use Rattle.std.specs.List.{AllByRecursion, flat_map}
+use Rattle.std.proofs.Common.{◌≡◌, ℕ, zero, suc, ◌+◌, ◌*◌, ◌<◌, ◌≤◌, Bool, true, false, if◌then◌else◌, List, [], ◌∷◌, ◌++◌, length, take, drop, Option, Some, None, refl, arith, inl, inr}
+use Rattle.std.specs.Prelude.{◌^◌, not, nat_lt, slice_get, slice_index, unwrap_or}
+use Rattle.std.specs.List.{AllByRecursion}
 use Rattle.std.specs.Int.{cast_signed, w32}
 use Rattle.al_base.specs.declared.trap.Trap.TheVariants as trap
 use Rattle.al_event.specs.declared.act.Act.TheVariants as act
-use Rattle.al_event.specs.declared.act.Start.{Start}
 use Rattle.al_event.specs.declared.act.Block.TheVariants.{Heap, Frame as FrameBlock}
-use Rattle.al_world.specs.Control.{fitted, cut}
+use Rattle.al_world.specs.Control.{fitted}
 use Rattle.al_world.specs.Turns.{Moves, Turns, Asks}
 use Rattle.al_typed.specs.declared.ty.Ty.{Ty, out-Ty}
 use Rattle.al_typed.specs.declared.ty.Ty.TheOpen.{Ty-F}
@@ -23,19 +22,19 @@ use Rattle.al_typed.specs.declared.program.Program.{Program}
 use Rattle.al_typed.specs.declared.statement.TStmt.{TStmt}
 use Rattle.al_typed.specs.StatementForms as part
 use Rattle.al_typed.specs.WellTyped.{IsWellTyped, IsValue, IsStatement, in_loop, no_labels}
-use Rattle.al_meaning.specs.Words.{bits_of, is_zero, is_below, operated, sum, fitted_to, part_of, zero_words, integer_words, truth, operated_once, stepped_by, elements_between, converted}
+use Rattle.al_meaning.specs.Words.{bits_of, is_zero, is_below, operated, sum, fitted_to, part_of, zero_words, truth, operated_once, stepped_by, elements_between, converted}
 use Rattle.al_meaning.specs.Places.{block_size, function_at, has_block, locals_of, private_place, words_in}
 use Rattle.al_meaning.specs.Shown.{most_text, written}
-use Rattle.al_meaning.specs.Items.{Found, Words, Address, Local, Private, Nowhere, Argument, Bounds, Work, Eval, Find, Aim, Answered, Give, Drop, Unary, Negate, Binary, AndThen, OrElse, Truth, Advance, AdvanceCounted, Between, Convert, Part, Join, Point, Index, Within, AddressOf, Read, Look, Fetch, Fetched, Save, Put, Write, Assign, Update, Step, Clear, PassPlace, PassPointer, PassPart, Invoke, InvokePointer, Enter, InvokeInstead, Replace, TakeBlock, SetBlock, StoreParameter, Returns, CountReturn, Leave, Gather, Compose, Scan, Scanned, Terminates, Receives, Received, Sends, CanReceives, CanSends, Allocate, Unallocate, StartProc, StartTask, Do, Choose, Test, WhileTest, WhileAgain, DoCondition, DoTest, ForCondition, ForTest, ForNext, ForAgain, Bound, Iterate, NextTurn, Select, AltTalk, AltWent, CasesEnd, Item, Frame, Entering, Control}
+use Rattle.al_meaning.specs.Items.{Found, Words, Address, Local, Private, Nowhere, Argument, Bounds, Work, Eval, Find, Aim, Answered, Give, Drop, Unary, Negate, Binary, AndThen, OrElse, Truth, Advance, AdvanceCounted, Between, Convert, Part, Join, Point, Index, Within, AddressOf, Read, Look, Fetch, Fetched, Save, Put, Write, Assign, Update, Step, Clear, PassPlace, PassPointer, PassPart, Invoke, InvokePointer, Enter, InvokeInstead, Replace, TakeBlock, SetBlock, StoreParameter, Returns, CountReturn, Leave, Gather, Compose, Scan, Scanned, Terminates, Receives, Received, Sends, CanReceives, CanSends, Allocate, Unallocate, StartProc, StartTask, Do, Choose, Test, WhileTest, WhileAgain, DoCondition, DoTest, ForCondition, ForTest, ForNext, ForAgain, Bound, Iterate, NextTurn, Select, AltTalk, AltWent, CasesEnd, Item, Frame, Control}
 use Rattle.al_meaning.specs.Parts.{item, to_do}
-use Rattle.al_meaning.specs.Here.{Here, Next, asks, finds, gives, with_two, with_place, with_address, places_before, place_taken, traps, lost, size_in, control_at, does, function_here, here, moves, turns, units_in, with_found, with_items, with_value, with_work, words_before}
-use Rattle.al_meaning.specs.Calls.{begun, begun_function, begun_items, block_work, default_of, ends, enters, gives_block, has_room, invokes, invokes_found, joined, leaves, line_of_name, local_words, named_by, only, parameter_work, with_given}
+use Rattle.al_meaning.specs.Here.{Here, Next, asks, finds, gives, with_place, places_before, traps, size_in, control_at, does, function_here, here, moves, units_in, with_found, with_items, with_value, with_work, words_before}
+use Rattle.al_meaning.specs.Calls.{begun, begun_function, block_work, default_of, ends, enters, gives_block, has_room, invokes, invokes_found, joined, leaves, line_of_name, named_by, only, parameter_work, with_given}
 use Rattle.al_meaning.specs.Evaluate.{goes_into, alt_branches, alt_exprs, and_dropped, allocates, arguments_of, communications, compose, composes, fetch_units, gives_back, goes_back, leaves_of, local_found, next_value, passes_part, passes_place, read_place, receiving, save_at, saves, saves_and_gives, saves_updated, scanned, sending, step_gives, updated, with_local, write_units}
-use Rattle.al_meaning.specs.Execute.{select, alt_asks, bounds_of, cases_of, do_condition, for_condition, for_next, for_test, iterate, next_turn, optionally, starts, starts_other, while_test}
-use Rattle.al_meaning.specs.Step.{gives_quotient, private_step, step_entering, step_frame, step_frames, step_work, store_parameter}
+use Rattle.al_meaning.specs.Execute.{select, bounds_of, cases_of, do_condition, for_condition, for_next, for_test, iterate, next_turn, optionally, starts, while_test}
+use Rattle.al_meaning.specs.Step.{gives_quotient, step_frame, step_work, store_parameter}
 use Rattle.al_meaning.specs.Meaning.{resume, start}
 use Rattle.zz.specs.Small.{IsSmall}
-use Rattle.zz.specs.Controls.{HasFewIterators, HasRoom, In, OtherStands, Stands, WorkIs, ItemIs, FrameIs, IsScanned, TopIs, FramesAre, ControlIs, WaitIs, NextIs}
+use Rattle.zz.specs.Controls.{HasRoom, In, Stands, WorkIs, FrameIs, IsScanned, TopIs, ControlIs, NextIs}
 use Rattle.zz.proofs.Going.{HereIs, WorksAre, address_it, asks_it, controlled, does_it, each_append, either, finds_it, gives_it, given_is, goes_on, items_are, laid, lost_it, place_it, places_it, resumed, traps_it, turns_it, two_it, value_it, values_it, waits}
 use Rattle.zz.proofs.Terms.{aim_it, dropped_works, eval_it, find_it, narrow}
 use Rattle.zz.proofs.Statements.{select_it, went_it}

@@ -1,10 +1,9 @@
 -- What steps of actions need, so that their numbers fit in words. All of it holds of well-typed programs.
 use Rattle.std.specs.Prelude.{◌<◌, ◌^◌, List, ◌∷◌, ⊤, slice_index}
-use Rattle.al_typed.specs.declared.ty.Ty.{Ty, out-Ty}
+use Rattle.al_typed.specs.declared.ty.Ty.{Ty}
 use Rattle.al_typed.specs.declared.ty.Ty.TheOpen.{Ty-F}
 use Rattle.al_typed.specs.declared.program.Program.{Program}
 use Rattle.al_meaning.specs.Items.{Found, Words}
-use Rattle.al_meaning.specs.Here.{Here}
 use Rattle.al_meaning.specs.Places.{words_in}
 use Rattle.zz.specs.Small.{IsSmall}
 

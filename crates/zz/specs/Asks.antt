@@ -1,6 +1,5 @@
 -- What a task asks, and what its steps on the way there need.
 use Rattle.std.specs.Prelude.{ℕ, ◌-◌, List}
-use Rattle.al_world.specs.Control.{Asked as TheAsked}
 use Rattle.al_world.specs.Turns.{to_turn}
 use Rattle.al_typed.specs.declared.program.Program.{Program}
 use Rattle.al_meaning.specs.Items.{Control, most_turns}

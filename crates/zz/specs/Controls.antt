@@ -5,17 +5,16 @@ use Rattle.std.specs.List.{AllByRecursion}
 use Rattle.al_event.specs.declared.act.Act.{Act}
 use Rattle.al_world.specs.Control.{fitted}
 use Rattle.al_world.specs.Turns.{Moves, Turns, Asks}
-use Rattle.al_typed.specs.declared.ty.Ty.{Ty, out-Ty}
+use Rattle.al_typed.specs.declared.ty.Ty.{out-Ty}
 use Rattle.al_typed.specs.declared.program.Function.{Function as FunctionRow}
 use Rattle.al_typed.specs.declared.program.Program.{Program}
-use Rattle.al_typed.specs.declared.expression.TExpr.{TExpr}
 use Rattle.al_typed.specs.declared.statement.TStmt.{TStmt, Empty, Block', Declare, Value, If', Switch', Case, Default, Alt', AltCase, Par, Raise, Goto, Return, Become, Break, Continue, Alloc, Unalloc, Check, Proc, Task, Held-TStmt-If-3, Row_of-TStmt, end_of-TStmt, more_of-TStmt}
 use Rattle.al_typed.specs.declared.statement.TStmt as stmt
 use Rattle.al_typed.specs.StatementForms as part
-use Rattle.al_typed.specs.WellTyped.{Scope, Nest, IsValue, IsPlace, IsTarget, IsStatement, IsWellTyped}
+use Rattle.al_typed.specs.WellTyped.{Scope, Nest, IsValue, IsPlace, IsTarget, IsStatement}
 use Rattle.al_meaning.specs.Places.{block_place, block_sizes, function_at}
-use Rattle.al_meaning.specs.Items.{Found, Work, Eval, Find, Aim, Answered, Give, Drop, Unary, Negate, Binary, AndThen, OrElse, Truth, Advance, AdvanceCounted, Between, Convert, Part, Join, Point, Index, Within, AddressOf, Read, Look, Fetch, Fetched, Save, Put, Write, Assign, Update, Step, Clear, PassPlace, PassPointer, PassPart, Invoke, InvokePointer, Enter, InvokeInstead, Replace, TakeBlock, SetBlock, StoreParameter, Returns, CountReturn, Leave, Gather, Compose, Scan, Scanned, Terminates, Receives, Received, Sends, CanReceives, CanSends, Allocate, Unallocate, StartProc, StartTask, Do, Choose, Test, WhileTest, WhileAgain, DoCondition, DoTest, ForCondition, ForTest, ForNext, ForAgain, Bound, Iterate, NextTurn, Select, AltTalk, AltWent, CasesEnd, Item, Frame, Entering, Control}
-use Rattle.al_meaning.specs.Here.{Here, Next, pointee}
+use Rattle.al_meaning.specs.Items.{Found, Work, Eval, Find, Aim, AndThen, OrElse, Part, Read, Look, Save, Put, Assign, Update, Step, Clear, PassPlace, PassPointer, PassPart, Scanned, Receives, Received, Sends, Allocate, Do, Choose, WhileTest, WhileAgain, DoCondition, DoTest, ForCondition, ForTest, ForNext, ForAgain, Bound, Iterate, NextTurn, Select, AltTalk, AltWent, Item, Frame, Entering, Control}
+use Rattle.al_meaning.specs.Here.{Next, pointee}
 use Rattle.al_meaning.specs.Evaluate.{leaves_of}
 use Rattle.al_meaning.specs.Meaning.{resume}
 use Rattle.zz.specs.Small.{IsSmall}

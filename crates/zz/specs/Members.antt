@@ -1,9 +1,8 @@
 -- Members that paths lead to, and that words have room for.
-use Rattle.std.specs.Prelude.{◌≡◌, ℕ, ◌<◌, ◌^◌, List, IsSome}
+use Rattle.std.specs.Prelude.{ℕ, ◌<◌, ◌^◌, List, IsSome}
 use Rattle.al_typed.specs.declared.program.Program.{Program}
 use Rattle.al_typed.specs.declared.ty.Ty.{Ty}
 use Rattle.al_typed.specs.Layout.{member}
-use Rattle.al_meaning.specs.Here.{member_type}
 use Rattle.al_meaning.specs.Places.{path_offset}
 
 -- a path leads to a member of a type, at an offset that fits

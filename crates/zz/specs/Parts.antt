@@ -1,5 +1,5 @@
 -- Where a step comes to numbers that words have no room for.
-use Rattle.std.specs.Prelude.{List, ℕ, ⊤}
+use Rattle.std.specs.Prelude.{List, ℕ}
 use Rattle.al_typed.specs.declared.program.Program.{Program}
 use Rattle.al_typed.specs.declared.ty.Ty.{Ty}
 use Rattle.al_typed.specs.Layout.{member}

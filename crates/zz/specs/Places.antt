@@ -9,7 +9,7 @@ use Rattle.al_typed.specs.declared.program.Local.{Local as LocalRow}
 use Rattle.al_typed.specs.declared.program.Program.{Program}
 use Rattle.al_typed.specs.ExpressionForms as form
 use Rattle.al_typed.specs.Typed.{type_of, place_type}
-use Rattle.al_meaning.specs.Places.{global_place, function_at, locals_of, local_offset, path_offset, words_in}
+use Rattle.al_meaning.specs.Places.{global_place, function_at, locals_of, local_offset, path_offset}
 use Rattle.al_meaning.specs.Here.{pointee}
 use Rattle.al_meaning.specs.Evaluate.{round_of}
 use Rattle.zz.specs.Small.{IsSmall}
