@@ -2,6 +2,7 @@ pub mod Sizes
 pub mod Members
 pub mod Sound
 pub mod Going
+pub mod Units
 pub mod Terms
 pub mod Statements
 pub mod Doing
