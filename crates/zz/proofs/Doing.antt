@@ -1,6 +1,9 @@
 -- What a statement does is work that is known too.
-use Rattle.std.proofs.Common.{◌≡◌, ℕ, true, false, List, [], ◌∷◌, ◌++◌, map, length, Option, Some, None, refl, sym, ap, ◌∙◌}
-use Rattle.std.specs.Prelude.{unwrap_or}
+use Rattle.al_typed.specs.declared.ty.Ty.TheBlock.{hidden-the_row-Ty-0, shown-the_row-Ty-0}
+use denote.Hole.Carrier.{out, hidden, shown}
+use Rattle.al_typed.specs.Types.{points_to_complete, points_to_complete_at}
+use Rattle.std.proofs.Common.{◌≡◌, ℕ, true, false, List, [], ◌∷◌, ◌++◌, map, length, Option, Some, None, refl, sym, ap, ◌∙◌, arith, subst, inl, inr, Bool}
+use Rattle.std.specs.Prelude.{unwrap_or, ◌⊎◌}
 use Rattle.std.specs.List.{AllByRecursion, flat_map}
 use Rattle.std.proofs.lemmas.List.Elements.{recursion_from_All}
 use Rattle.al_event.specs.declared.act.Act.TheVariants as act
@@ -17,7 +20,7 @@ use Rattle.al_typed.specs.declared.statement.TInitializer.{TInitializer}
 use Rattle.al_typed.specs.declared.statement.TStmt.{TStmt, Empty, Block', Declare, Value, If', Switch', Case, Default, Alt', AltCase, Par, Raise, Goto, Return, Become, Break, Continue, Alloc, Unalloc, Check, Proc, Task, end_of-TStmt, more_of-TStmt}
 use Rattle.al_typed.specs.StatementForms as part
 use Rattle.al_typed.specs.Typed.{type_of, place_type}
-use Rattle.al_typed.specs.WellTyped.{IsWellTyped, IsValue, IsPlace, IsStatement, IsInitializer, AreBounds, IsOptionalValue, IsCall, Allocates, GivesBack, inside, in_loop, is_sound}
+use Rattle.al_typed.specs.WellTyped.{IsWellTyped, IsValue, IsPlace, IsStatement, IsInitializer, AreBounds, IsOptionalValue, IsCall, Allocates, GivesBack, inside, in_loop, is_sound, IsChannel}
 use Rattle.al_meaning.specs.Items.{Work, Eval, Answered, InvokeInstead, Returns, StartProc, StartTask, Choose, Test, WhileTest, DoCondition, ForCondition, Bound, Select, AltTalk}
 use Rattle.al_meaning.specs.Parts.{other_of, item, to_do, statements, behind_bodies, next_of_loop, branchings}
 use Rattle.al_meaning.specs.Here.{Here, function_here}
@@ -25,9 +28,10 @@ use Rattle.al_meaning.specs.Calls.{call_work, evaluated}
 use Rattle.al_meaning.specs.Evaluate.{alt_exprs, and_dropped, communications}
 use Rattle.al_meaning.specs.Execute.{starts, starts_then, allocation_work, bounds_exprs, branch_start, do_statement, initializer_work, jumps, optionally, target_items, unallocation_work}
 use Rattle.zz.specs.Actions.{AllocationFits}
-use Rattle.zz.specs.Controls.{HasRoom, In, Stands, WorkIs, NextIs}
+use Rattle.zz.specs.Controls.{AllocatesSome, HasRoom, In, Stands, WorkIs, NextIs}
 use Rattle.zz.proofs.Sizes.{few_words, sound_small, sound_pointer, sound_sent}
 use Rattle.zz.proofs.Going.{HereIs, WorksAre, asks_it, does_it, does_items, each_append, goes_on}
+use Rattle.zz.proofs.Bytes.{some_bytes}
 use Rattle.zz.proofs.Terms.{call_works, dropped_works, narrow, small_value, sound_place}
 use Rattle.zz.proofs.Statements.{body_items, other_stands, found_items, from_body, behind_is, next_is, alt_works, alt_branches_are}
 
@@ -60,14 +64,25 @@ allocation_fits p t h = on (out-Ty t) (sym (roll-out-Ty t))
         few_words p element (sound_small p element (sound_sent p.aggregates element capacity (sym (ap (is_sound p.aggregates) (e ∙ ty.rolls-Chan element capacity)) ∙ h)))
     on _ e = tt
 
-allocation_works : (p : Program) → IsWellTyped p → (n : ℕ) (ps : List TPlace) → In p n (λ s. AllByRecursion (Allocates s) ps) → WorksAre p n (flat_map allocation_work ps)
-allocation_works p W n [] x = tt
-allocation_works p W n (place ∷ ps) x =
+-- what a pointer leads to that is allocated has a byte
+allocates_some : (p : Program) → IsWellTyped p → HasRoom p → (t : Ty) → is_sound p.aggregates t ≡ true → (points_to_complete p.aggregates t ≡ true) ⊎ IsChannel t → AllocatesSome p (out-Ty t)
+unfolding points_to_complete out-Ty out hidden-the_row-Ty-0 shown-the_row-Ty-0 hidden shown
+allocates_some p W R t s (inl h) = on (out-Ty t) (sym (roll-out-Ty t)) h
+  where
+    on : (y : Ty-F Ty) → t ≡ roll-Ty y → points_to_complete_at p.aggregates y ≡ true → AllocatesSome p y
+    on (Ty-F.Pointer to) e h =
+        some_bytes p W R to (sym (sound_pointer p.aggregates to) ∙ (sym (ap (is_sound p.aggregates) (e ∙ ty.rolls-Pointer to)) ∙ s)) h
+    on _ e h = tt
+allocates_some p W R t s (inr h) = subst (λ t. AllocatesSome p (out-Ty t)) (sym h.1.1) tt
+
+allocation_works : (p : Program) → IsWellTyped p → HasRoom p → (n : ℕ) (ps : List TPlace) → In p n (λ s. AllByRecursion (Allocates s) ps) → WorksAre p n (flat_map allocation_work ps)
+allocation_works p W R n [] x = tt
+allocation_works p W R n (place ∷ ps) x =
     let y : In p n (λ s. IsPlace s place) = narrow x (λ s v. v.0.0) in
     let sound = sound_place p W n place y in
     each_append (WorkIs p n) (allocation_work place) (flat_map allocation_work ps)
-    (y, (allocation_fits p (place_type place) sound, (sound_small p (place_type place) sound, tt)))
-    (allocation_works p W n ps (narrow x (λ s v. v.1)))
+    (y, ((allocation_fits p (place_type place) sound, allocates_some p W R (place_type place) sound x.term.0.1), (sound_small p (place_type place) sound, tt)))
+    (allocation_works p W R n ps (narrow x (λ s v. v.1)))
 
 unallocation_works : (p : Program) (n : ℕ) (es : List TExpr) → In p n (λ s. AllByRecursion (GivesBack s) es) → WorksAre p n (flat_map unallocation_work es)
 unallocation_works p n [] x = tt
@@ -131,7 +146,7 @@ do_it (Alt' line shape body) h W R K x =
     (each_append (WorkIs h.program h.frame.function) (evaluated (alt_exprs (communications (branchings body)))) (AltTalk (Alt' line shape body) ∷ [])
     (alt_works h.program h.frame.function (branchings body) (alt_branches_are h.program h.frame.function (Alt' line shape body) x)) (x, tt))
 do_it (AltCase _) h W R K x = goes_on h K
-do_it (Par _ branches) h W R K x = asks_it h (act.Par (map (branch_start h) branches)) (Answered ∷ []) K (tt, tt)
+do_it (Par _ branches) h W R K x = asks_it h (act.Par (map (branch_start h) branches)) (Answered ∷ []) (tt, omega arith) K (tt, tt)
 do_it (part.rescue _ _ _) h W R K x = goes_on h K
 do_it (Raise _ rescue) h W R K x = jumps_it h rescue W R K
 do_it (Goto _ label) h W R K x = jumps_it h label W R K
@@ -148,7 +163,7 @@ do_it (Continue _ levels) h W R K x =
     (next_is h.program h.frame.function levels h.frame.items K.0, K.1)
 do_it (Alloc _ places) h W R K x =
     does_it h (flat_map allocation_work places) K
-    (allocation_works h.program W h.frame.function places (narrow x (λ s v. recursion_from_All (Allocates s) places v.1.0)))
+    (allocation_works h.program W R h.frame.function places (narrow x (λ s v. recursion_from_All (Allocates s) places v.1.0)))
 do_it (Unalloc _ values) h W R K x =
     does_it h (flat_map unallocation_work values) K
     (unallocation_works h.program h.frame.function values (narrow x (λ s v. recursion_from_All (GivesBack s) values v.1.0)))

@@ -1,5 +1,5 @@
 -- Where a step goes on: with work laid down, with what was found taken, or with an answer.
-use Rattle.std.proofs.Common.{ℕ, zero, suc, Bool, true, false, List, [], ◌∷◌, ◌++◌, map, Option, Some, None, inl}
+use Rattle.std.proofs.Common.{ℕ, zero, suc, Bool, true, false, List, [], ◌∷◌, ◌++◌, map, Option, Some, None, inl, arith}
 use Rattle.std.specs.Prelude.{if◌then◌else◌}
 use Rattle.std.specs.List.{AllByRecursion, flat_map}
 use Rattle.al_base.specs.declared.trap.Trap.{Trap}
@@ -13,7 +13,7 @@ use Rattle.al_meaning.specs.Parts.{item}
 use Rattle.al_meaning.specs.Here.{Here, Next, asks, at_address, control_at, does, finds, gives, lost, moves, place_taken, places_before, traps, turns, value_taken, with_address, with_found, with_items, with_place, with_two, with_value, with_work, words_before}
 use Rattle.al_meaning.specs.Calls.{with_given}
 use Rattle.al_meaning.specs.Meaning.{resume}
-use Rattle.zz.specs.Controls.{WorkIs, ItemIs, FrameIs, TopIs, FramesAre, ControlIs, WaitIs, NextIs}
+use Rattle.zz.specs.Controls.{ActIs, WorkIs, ItemIs, FrameIs, TopIs, FramesAre, ControlIs, WaitIs, NextIs}
 
 -- ---- lists
 
@@ -82,11 +82,11 @@ does_items h items K k = goes_on (with_items items h) (laid_items h items K k)
 pub waits : (h : Here) (a : Act) → HereIs h → WaitIs h.program a (control_at h)
 waits h a K = λ words. resumed h.program (control_at h) (fitted a words) K
 
-pub asks_it : (h : Here) (a : Act) (work : List Work) → HereIs h → WorksAre h.program h.frame.function work → NextIs h.program (asks h a work)
-asks_it h a work K w = waits (with_work work h) a (laid h work K w)
+pub asks_it : (h : Here) (a : Act) (work : List Work) → ActIs a → HereIs h → WorksAre h.program h.frame.function work → NextIs h.program (asks h a work)
+asks_it h a work A K w = (A, waits (with_work work h) a (laid h work K w))
 
 pub traps_it : (h : Here) (t : Trap) → HereIs h → NextIs h.program (traps h t)
-traps_it h t K = asks_it h (act.Trap t) (Answered ∷ []) K (tt, tt)
+traps_it h t K = asks_it h (act.Trap t) (Answered ∷ []) (tt, omega arith) K (tt, tt)
 
 pub lost_it : (h : Here) → HereIs h → NextIs h.program (lost h)
 lost_it h K = traps_it h trap.Illegal K

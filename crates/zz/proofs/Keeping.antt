@@ -1,5 +1,5 @@
 -- What is known of a control stays known: through its private steps, an answer, and at a start.
-use Rattle.std.proofs.Common.{◌≡◌, ℕ, zero, suc, ◌-◌, List, [], ◌∷◌, Option, Some, None, refl, sym, subst}
+use Rattle.std.proofs.Common.{◌≡◌, ℕ, zero, suc, ◌-◌, List, [], ◌∷◌, Option, Some, None, refl, sym, subst, arith}
 use Rattle.std.specs.Prelude.{⊤}
 use Rattle.std.specs.List.{AllByRecursion}
 use Rattle.al_event.specs.declared.act.Act.TheVariants as act
@@ -14,14 +14,14 @@ use Rattle.al_meaning.specs.Calls.{begun}
 use Rattle.al_meaning.specs.Step.{private_step, step_entering, step_frames}
 use Rattle.al_meaning.specs.Weight.{control_weight}
 use Rattle.al_meaning.specs.Meaning.{ask, start}
-use Rattle.zz.specs.Controls.{HasRoom, FrameIs, FramesAre, ControlIs, WaitIs, NextIs}
+use Rattle.zz.specs.Controls.{ActIs, HasRoom, FrameIs, FramesAre, ControlIs, WaitIs, NextIs}
 use Rattle.zz.specs.Fitting as fitting
 use Rattle.zz.proofs.Going.{controlled, resumed}
 use Rattle.zz.proofs.Working.{begun_is, enters_it, frame_steps}
 
 module _ (p : Program) (W : IsWellTyped p) (R : HasRoom p) where
   frames_step : (c : Control) (frames : List Frame) (u : List ℕ) → c.frames ≡ frames → FramesAre p None frames → NextIs p (step_frames p c frames u)
-  frames_step c [] u e K = λ words. resumed p c (fitted act.End words) (subst (AllByRecursion (FrameIs p)) (sym e) tt)
+  frames_step c [] u e K = ((tt, omega arith), λ words. resumed p c (fitted act.End words) (subst (AllByRecursion (FrameIs p)) (sym e) tt))
   frames_step c (f ∷ below) u e K = frame_steps p W R f.items f below u K.0 K.1
 
   entering_steps : (c : Control) (e : Option Entering) (u : List ℕ) → FramesAre p e c.frames → NextIs p (step_entering p c e u)
@@ -47,16 +47,17 @@ module _ (p : Program) (W : IsWellTyped p) (R : HasRoom p) where
       on (Asks a line d v) k more = k
 
   asked_waits : (n : ℕ) (x : Next) → NextIs p x
-      → WaitIs p (with_turns (private_step p) (control_weight p) n act.Pause x).act (with_turns (private_step p) (control_weight p) n act.Pause x).control
-  asked_waits zero (Moves c u) k = λ words. k
-  asked_waits zero (Turns line c u) k = λ words. k
+      → ActIs (with_turns (private_step p) (control_weight p) n act.Pause x).act
+      × WaitIs p (with_turns (private_step p) (control_weight p) n act.Pause x).act (with_turns (private_step p) (control_weight p) n act.Pause x).control
+  asked_waits zero (Moves c u) k = ((tt, omega arith), λ words. k)
+  asked_waits zero (Turns line c u) k = ((tt, omega arith), λ words. k)
   asked_waits zero (Asks a line c u) k = k
-  asked_waits (suc n) (Moves c u) k = λ words. k
+  asked_waits (suc n) (Moves c u) k = ((tt, omega arith), λ words. k)
   asked_waits (suc n) (Turns line c u) k = asked_waits n (to_turn (private_step p) (control_weight p) (control_weight p c) c u) (turn_is (control_weight p c) c u k)
   asked_waits (suc n) (Asks a line c u) k = k
 
   -- what a task asks leaves a control that goes on with each answer
-  pub ask_keeps : (c : Control) (u : List ℕ) → ControlIs p c → WaitIs p (ask p c u).act (ask p c u).control
+  pub ask_keeps : (c : Control) (u : List ℕ) → ControlIs p c → ActIs (ask p c u).act × WaitIs p (ask p c u).act (ask p c u).control
   ask_keeps c u K =
       asked_waits (most_turns - 1) (to_turn (private_step p) (control_weight p) (control_weight p c) c u) (turn_is (control_weight p c) c u K)
 

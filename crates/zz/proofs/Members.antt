@@ -32,7 +32,7 @@ grows (l ∷ ls) run h =
     omega arith
 
 -- a member lies before the end
-offset_fits : (ls : List Layout) (run : Run) (k at : ℕ) (l : Layout) → AllFit ls → slice_get (offsets_from run.at ls) k ≡ Some at → slice_get ls k ≡ Some l
+pub offset_fits : (ls : List Layout) (run : Run) (k at : ℕ) (l : Layout) → AllFit ls → slice_get (offsets_from run.at ls) k ≡ Some at → slice_get ls k ≡ Some l
     → at + l.size ≤ (fold followed run ls).at
 unfolding followed
 offset_fits [] run k at l h e is = absurd (cc)
@@ -65,7 +65,7 @@ covers (x ∷ ls) e zero l is =
     omega (arith, rest.0)
 covers (x ∷ ls) e (suc k) l is = covers ls (widened e x) k l is
 
-union_covers : (ls : List Layout) (k : ℕ) (l : Layout) → slice_get ls k ≡ Some l → l.size ≤ (over_each_other ls).size
+pub union_covers : (ls : List Layout) (k : ℕ) (l : Layout) → slice_get ls k ≡ Some l → l.size ≤ (over_each_other ls).size
 unfolding over_each_other
 union_covers ls k l is =
     let none : Extent = record { size = 0; align = 1 } in
@@ -103,7 +103,7 @@ member_lies rows false ms i at t is e =
     let end = in_order-end ls in
     omega arith
 
-aggregate_size : (rows : List Aggregate) (k : ℕ) (a : Aggregate) (ms : List Ty) → IsLaidOut rows → slice_get rows k ≡ Some a → a.members ≡ Some ms
+pub aggregate_size : (rows : List Aggregate) (k : ℕ) (a : Aggregate) (ms : List Ty) → IsLaidOut rows → slice_get rows k ≡ Some a → a.members ≡ Some ms
     → size_of rows (ty.Aggregate k) ≡ (members_layout a.is_union (map (layout rows) ms)).size
 aggregate_size rows k a ms laid e is =
     let ordered : All (λ t. is_complete (take k rows) t ≡ true) ms = subst (λ (o : Option (List Ty)). All (λ t. is_complete (take k rows) t ≡ true) (unwrap_or o [])) is (laid.ordered k a e) in

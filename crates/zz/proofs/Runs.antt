@@ -13,7 +13,7 @@ use Rattle.al_meaning.specs.Places.{opening_blocks}
 use Rattle.al_meaning.specs.Items.{Control}
 use Rattle.al_meaning.specs.Meaning.{ask, main_start, run, source, start}
 use Rattle.zz.specs.Asks.{AskFits}
-use Rattle.zz.specs.Controls.{HasRoom, ControlIs, WaitIs}
+use Rattle.zz.specs.Controls.{ActIs, HasRoom, ControlIs, WaitIs}
 use Rattle.zz.proofs.Keeping.{ask_keeps, start_is}
 use Rattle.zz.proofs.Rooms.{asks_fit}
 
@@ -62,7 +62,7 @@ module _ (p : Program) (W : IsWellTyped p) (R : HasRoom p) where
       on None = tt
 
   held_is : (w : World (source p)) (t : TaskName) (pick : ℕ) (h : Held Control) → AllHeld p w → HeldIs p h → SomeHeld p (step_held (source p) w t pick h)
-  held_is w t pick (Goes c) k x = asked_is w t pick (ask p c (w.privates t.proc)) k (ask_keeps p W R c (w.privates t.proc) x)
+  held_is w t pick (Goes c) k x = asked_is w t pick (ask p c (w.privates t.proc)) k (ask_keeps p W R c (w.privates t.proc) x).1
   held_is w t pick Absent k x = tt
   held_is w t pick (Waits a c) k x = tt
 
@@ -89,3 +89,8 @@ module _ (p : Program) (W : IsWellTyped p) (R : HasRoom p) where
   pub run_fits : (region : ℕ) (h : List Entry) (w : World (source p)) (t : TaskName) (c : Control) → run p region h ≡ Some w → w.tasks t ≡ Goes c
       → AskFits p c (w.privates t.proc)
   run_fits region h w t c e is = asks_fit p W R c (w.privates t.proc) (subst (HeldIs p) is (run_held region h w e t))
+
+  -- and what it asks is an action with sizes that there are
+  pub run_asks : (region : ℕ) (h : List Entry) (w : World (source p)) (t : TaskName) (c : Control) → run p region h ≡ Some w → w.tasks t ≡ Goes c
+      → ActIs (ask p c (w.privates t.proc)).act
+  run_asks region h w t c e is = (ask_keeps p W R c (w.privates t.proc) (subst (HeldIs p) is (run_held region h w e t))).0

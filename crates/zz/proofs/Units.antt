@@ -11,13 +11,11 @@ use Rattle.al_typed.specs.declared.ty.Ty.{Ty, Void, Integer, Pointer', Array', C
 use Rattle.al_typed.specs.TyFold.{fold_ty, fold_types}
 use Rattle.al_typed.specs.Types.{bytes_of}
 use Rattle.al_typed.specs.Layout.{Layout, Run, Extent, rounded, layout, layout_of, layout_step, layouts_after, aggregate_layout, body_layout, members_layout, nothing, of_bytes, repeated, in_order, over_each_other, followed, widened, piled, begun, moved, unit_at, units_of}
+use Rattle.zz.specs.Controls.{AreUnits}
 use Rattle.zz.proofs.Going.{each_append}
 
-abbrev pub AreUnits : List Unit → Type 0
-AreUnits units = AllByRecursion (λ (u : Unit). IsWidth u.size) units
-
 -- its alignment and its units are widths
-abbrev IsSplit : Layout → Type 0
+abbrev pub IsSplit : Layout → Type 0
 IsSplit l = IsWidth l.align × AreUnits l.units
 
 one : IsWidth 1
@@ -103,7 +101,7 @@ mutual
   fold_split known (Aggregate_ number) h = known_split known number h
   fold_split known (Function' _ (more_of-Ty returns end_of-Ty) _ parameters) h = (one, tt)
 
-  fold_all_split : (known : List Layout) {m : _} (row : Row_of-Ty m) → AllByRecursion IsSplit known → AllByRecursion IsSplit (fold_types (layout_step known) row)
+  pub fold_all_split : (known : List Layout) {m : _} (row : Row_of-Ty m) → AllByRecursion IsSplit known → AllByRecursion IsSplit (fold_types (layout_step known) row)
   fold_all_split known end_of-Ty h = tt
   fold_all_split known (more_of-Ty t rest) h = (fold_split known t h, fold_all_split known rest h)
 
@@ -127,12 +125,16 @@ aggregate_split : (known : List Layout) (a : Aggregate) → AllByRecursion IsSpl
 unfolding aggregate_layout
 aggregate_split known a h = body_split known a.is_union a.members h
 
-known_after_split : (known : List Layout) (rows : List Aggregate) → AllByRecursion IsSplit known → AllByRecursion IsSplit (layouts_after known rows)
+pub known_after_split : (known : List Layout) (rows : List Aggregate) → AllByRecursion IsSplit known → AllByRecursion IsSplit (layouts_after known rows)
 unfolding layouts_after
 known_after_split known [] h = h
 known_after_split known (a ∷ rest) h =
     known_after_split (known ++ aggregate_layout known a ∷ []) rest
     (each_append IsSplit known (aggregate_layout known a ∷ []) h (aggregate_split known a h, tt))
+
+pub layouts_split : (rows : List Aggregate) (ts : List Ty) → AllByRecursion IsSplit (map (layout rows) ts)
+unfolding layout
+layouts_split rows ts = layouts_of_split (layouts_after [] rows) ts (known_after_split [] rows tt)
 
 pub units_are : (rows : List Aggregate) (t : Ty) → AreUnits (units_of rows t)
 unfolding layout

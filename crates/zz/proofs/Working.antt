@@ -19,23 +19,26 @@ use Rattle.al_typed.specs.declared.expression.TExpr.{TExpr}
 use Rattle.al_typed.specs.declared.program.Function.{Function as FunctionRow}
 use Rattle.al_typed.specs.declared.program.Local.{Local as LocalRow}
 use Rattle.al_typed.specs.declared.program.Program.{Program}
-use Rattle.al_typed.specs.declared.statement.TStmt.{TStmt}
+use Rattle.al_typed.specs.declared.statement.TCommunication.{TCommunication}
+use Rattle.al_typed.specs.declared.statement.TStmt.{TStmt, Alt', AltCase, Row_of-TStmt, end_of-TStmt, more_of-TStmt}
 use Rattle.al_typed.specs.StatementForms as part
-use Rattle.al_typed.specs.WellTyped.{IsWellTyped, IsValue, IsStatement, in_loop, no_labels}
+use Rattle.al_typed.specs.WellTyped.{IsWellTyped, IsValue, IsStatement, alt_cases, in_loop, no_labels}
 use Rattle.al_meaning.specs.Words.{bits_of, is_zero, is_below, operated, sum, fitted_to, part_of, zero_words, truth, operated_once, stepped_by, elements_between, converted}
 use Rattle.al_meaning.specs.Places.{block_size, function_at, has_block, locals_of, private_place, words_in}
 use Rattle.al_meaning.specs.Shown.{most_text, written}
 use Rattle.al_meaning.specs.Items.{Found, Words, Address, Local, Private, Nowhere, Argument, Bounds, Work, Eval, Find, Aim, Answered, Give, Drop, Unary, Negate, Binary, AndThen, OrElse, Truth, Advance, AdvanceCounted, Between, Convert, Part, Join, Point, Index, Within, AddressOf, Read, Look, Fetch, Fetched, Save, Put, Write, Assign, Update, Step, Clear, PassPlace, PassPointer, PassPart, Invoke, InvokePointer, Enter, InvokeInstead, Replace, TakeBlock, SetBlock, StoreParameter, Returns, CountReturn, Leave, Gather, Compose, Scan, Scanned, Terminates, Receives, Received, Sends, CanReceives, CanSends, Allocate, Unallocate, StartProc, StartTask, Do, Choose, Test, WhileTest, WhileAgain, DoCondition, DoTest, ForCondition, ForTest, ForNext, ForAgain, Bound, Iterate, NextTurn, Select, AltTalk, AltWent, CasesEnd, Item, Frame, Control}
-use Rattle.al_meaning.specs.Parts.{item, to_do}
+use Rattle.al_meaning.specs.Parts.{item, to_do, branchings}
 use Rattle.al_meaning.specs.Here.{Here, Next, asks, finds, gives, with_place, places_before, traps, size_in, control_at, does, function_here, here, moves, units_in, with_found, with_items, with_value, with_work, words_before}
 use Rattle.al_meaning.specs.Calls.{begun, begun_function, block_work, default_of, ends, enters, gives_block, has_room, invokes, invokes_found, joined, leaves, line_of_name, named_by, only, parameter_work, with_given}
-use Rattle.al_meaning.specs.Evaluate.{goes_into, alt_branches, alt_exprs, and_dropped, allocates, arguments_of, communications, compose, composes, fetch_units, gives_back, goes_back, leaves_of, local_found, next_value, passes_part, passes_place, read_place, receiving, save_at, saves, saves_and_gives, saves_updated, scanned, sending, step_gives, updated, with_local, write_units}
+use Rattle.al_meaning.specs.Evaluate.{communication_exprs, goes_into, alt_branches, alt_exprs, and_dropped, allocates, arguments_of, communications, compose, composes, fetch_units, gives_back, goes_back, leaves_of, local_found, next_value, passes_part, passes_place, read_place, receiving, save_at, saves, saves_and_gives, saves_updated, scanned, sending, step_gives, updated, with_local, write_units}
 use Rattle.al_meaning.specs.Execute.{select, bounds_of, cases_of, do_condition, for_condition, for_next, for_test, iterate, next_turn, optionally, starts, while_test}
 use Rattle.al_meaning.specs.Step.{gives_quotient, step_frame, step_work, store_parameter}
 use Rattle.al_meaning.specs.Meaning.{resume, start}
 use Rattle.zz.specs.Small.{IsSmall}
-use Rattle.zz.specs.Controls.{HasRoom, In, Stands, WorkIs, FrameIs, IsScanned, TopIs, ControlIs, NextIs}
+use Rattle.zz.specs.Controls.{AllocatesSome, AreUnits, HasRoom, In, Stands, WorkIs, FrameIs, IsScanned, TopIs, ControlIs, NextIs}
 use Rattle.zz.proofs.Going.{HereIs, WorksAre, address_it, asks_it, controlled, does_it, each_append, either, finds_it, gives_it, given_is, goes_on, items_are, laid, lost_it, place_it, places_it, resumed, traps_it, turns_it, two_it, value_it, values_it, waits}
+use Rattle.zz.proofs.Units.{units_are}
+use Rattle.zz.proofs.Bytes.{block_some}
 use Rattle.zz.proofs.Terms.{aim_it, dropped_works, eval_it, find_it, narrow}
 use Rattle.zz.proofs.Statements.{select_it, went_it}
 use Rattle.zz.proofs.Doing.{do_it, optional_works, starts_it, starts_then_it}
@@ -44,26 +47,26 @@ use Rattle.zz.proofs.Doing.{do_it, optional_works, starts_it, starts_then_it}
 
 read_it : (t : Ty) (f : Found) (h : Here) → HereIs h → NextIs h.program (read_place t f h)
 read_it t (Words ws) h K = lost_it h K
-read_it t (Address at) h K = does_it h (Fetch at (units_in h.program t) [] ∷ []) K (tt, tt)
+read_it t (Address at) h K = does_it h (Fetch at (units_in h.program t) [] ∷ []) K (units_are h.program.aggregates t, tt)
 read_it t (Local number) h K = gives_it h (unwrap_or (slice_get h.frame.locals number) []) K
 read_it t (Private number) h K = gives_it h (take (words_in h.program t) (drop (private_place h.program number) h.privates)) K
 read_it t Nowhere h K = lost_it h K
 
-fetch_it : (at : ℕ) (units : List Unit) (got : List ℕ) (h : Here) → HereIs h → NextIs h.program (fetch_units at units got h)
-fetch_it at [] got h K = gives_it h got K
-fetch_it at (u ∷ units) got h K = asks_it h (act.Load (sum at u.at) u.size) (Fetched at units got ∷ []) K (tt, tt)
+fetch_it : (at : ℕ) (units : List Unit) (got : List ℕ) (h : Here) → AreUnits units → HereIs h → NextIs h.program (fetch_units at units got h)
+fetch_it at [] got h x K = gives_it h got K
+fetch_it at (u ∷ units) got h x K = asks_it h (act.Load (sum at u.at) u.size) (Fetched at units got ∷ []) (x.0, omega arith) K (x.1, tt)
 
 save_it : (t : Ty) (words : List ℕ) (f : Found) (h : Here) → HereIs h → NextIs h.program (save_at t words f h)
 save_it t words (Words ws) h K = lost_it h K
-save_it t words (Address at) h K = does_it h (Write at (units_in h.program t) words ∷ []) K (tt, tt)
+save_it t words (Address at) h K = does_it h (Write at (units_in h.program t) words ∷ []) K (units_are h.program.aggregates t, tt)
 save_it t words (Local number) h K = goes_on (with_local number words h) K
 save_it t words (Private number) h K = goes_on h K
 save_it t words Nowhere h K = goes_on h K
 
-write_it : (at : ℕ) (units : List Unit) (words : List ℕ) (h : Here) → HereIs h → NextIs h.program (write_units at units words h)
-write_it at [] words h K = goes_on h K
-write_it at (u ∷ units) words h K =
-    asks_it h (act.Store (sum at u.at) u.size (slice_index words 0)) (Write at units (drop 1 words) ∷ []) K (tt, tt)
+write_it : (at : ℕ) (units : List Unit) (words : List ℕ) (h : Here) → AreUnits units → HereIs h → NextIs h.program (write_units at units words h)
+write_it at [] words h x K = goes_on h K
+write_it at (u ∷ units) words h x K =
+    asks_it h (act.Store (sum at u.at) u.size (slice_index words 0)) (Write at units (drop 1 words) ∷ []) (x.0, omega arith) K (x.1, tt)
 
 saves_are : (p : Program) (n : ℕ) (ts : List Ty) (places : List Found) (words : List ℕ) → AllByRecursion (IsSmall p) ts → WorksAre p n (saves p ts places words)
 saves_are p n [] places words h = tt
@@ -145,7 +148,7 @@ enters_it p W R number words c frames privates K below =
     either p (has_room p number frames) (Moves (record { entering = None; frames = begun p number words ∷ frames }) privates)
     (Asks (act.Trap trap.Stack) (line_of_name (function_at p number)) c privates)
     (controlled p None (begun p number words ∷ frames) (begun_is p W R number words, below))
-    (λ answer. resumed p c (fitted (act.Trap trap.Stack) answer) K)
+    ((tt, omega arith), λ answer. resumed p c (fitted (act.Trap trap.Stack) answer) K)
 
 only_is : (h : Here) (w : Work) → HereIs h → WorkIs h.program h.frame.function w → HereIs (only h (w ∷ []))
 only_is h w K x = ((x, tt), K.1)
@@ -153,7 +156,7 @@ only_is h w K x = ((x, tt), K.1)
 block_it : (h : Here) (w : Work) (next : Next) → HereIs h → WorkIs h.program h.frame.function w → NextIs h.program next → NextIs h.program (gives_block h (w ∷ []) next)
 block_it h w next K x f =
     either h.program (has_block (locals_of (function_here h))) (Asks (act.Free h.frame.block FrameBlock) h.line (control_at (only h (w ∷ []))) h.privates) next
-    (waits (only h (w ∷ [])) (act.Free h.frame.block FrameBlock) (only_is h w K x)) f
+    ((tt, omega arith), waits (only h (w ∷ [])) (act.Free h.frame.block FrameBlock) (only_is h w K x)) f
 
 ends_it : (h : Here) (given : Option (List ℕ)) → HereIs h → NextIs h.program (ends h given)
 ends_it h given K =
@@ -169,7 +172,7 @@ composes_it h pieces arguments text bytes K =
     either h.program (nat_lt most_text (length text + length bytes)) _ _ (traps_it h trap.Print K) (does_it h (Compose pieces arguments (text ++ bytes) ∷ []) K (tt, tt))
 
 compose_it : (pieces : List PrintPiece) (arguments : List Argument) (text : List ℕ) (h : Here) → HereIs h → NextIs h.program (compose pieces arguments text h)
-compose_it [] arguments text h K = asks_it h (act.Print text) (Answered ∷ []) K (tt, tt)
+compose_it [] arguments text h K = asks_it h (act.Print text) (Answered ∷ []) (tt, omega arith) K (tt, tt)
 compose_it (print.Byte b ∷ pieces) arguments text h K = composes_it h pieces arguments text (b ∷ []) K
 compose_it (print.Percent ∷ pieces) arguments text h K = composes_it h pieces arguments text (37 ∷ []) K
 compose_it (print.Text ∷ pieces) (a ∷ arguments) text h K = does_it h (Scan (slice_index a.words 0) pieces arguments text ∷ []) K (tt, tt)
@@ -191,31 +194,31 @@ scanned_it (suc b) at pieces arguments text h K =
 -- the answer to a load of one byte is one
 scan_it : (at : ℕ) (pieces : List PrintPiece) (arguments : List Argument) (text : List ℕ) (h : Here) → HereIs h
     → NextIs h.program (asks h (act.Load at 1) (Scanned at pieces arguments text ∷ []))
-scan_it at pieces arguments text h K = on
+scan_it at pieces arguments text h K = ((inl refl, omega arith), on)
   where
     on : (words : List ℕ) → ControlIs h.program (resume (control_at (with_work (Scanned at pieces arguments text ∷ []) h)) (fitted (act.Load at 1) words))
     on [] = ((inr (omega arith), K.0), K.1)
     on (w ∷ words) = ((inr (omega arith), K.0), K.1)
 
-allocates_it : (t : Ty-F Ty) (h : Here) → HereIs h → NextIs h.program (allocates t h)
-allocates_it (Ty-F.Pointer to) h K = asks_it h (act.Alloc (size_in h.program to) Heap) (Answered ∷ []) K (tt, tt)
-allocates_it (Ty-F.Chan element capacity) h K = asks_it h (act.NewChan capacity (words_in h.program element)) (Answered ∷ []) K (tt, tt)
-allocates_it Ty-F.Void h K = lost_it h K
-allocates_it (Ty-F.Integer k) h K = lost_it h K
-allocates_it (Ty-F.Array element count) h K = lost_it h K
-allocates_it (Ty-F.Tuple parts) h K = lost_it h K
-allocates_it (Ty-F.Aggregate number) h K = lost_it h K
-allocates_it (Ty-F.Function returns parameters) h K = lost_it h K
+allocates_it : (t : Ty-F Ty) (h : Here) → AllocatesSome h.program t → HereIs h → NextIs h.program (allocates t h)
+allocates_it (Ty-F.Pointer to) h x K = asks_it h (act.Alloc (size_in h.program to) Heap) (Answered ∷ []) (x, omega arith) K (tt, tt)
+allocates_it (Ty-F.Chan element capacity) h x K = asks_it h (act.NewChan capacity (words_in h.program element)) (Answered ∷ []) (tt, omega arith) K (tt, tt)
+allocates_it Ty-F.Void h x K = lost_it h K
+allocates_it (Ty-F.Integer k) h x K = lost_it h K
+allocates_it (Ty-F.Array element count) h x K = lost_it h K
+allocates_it (Ty-F.Tuple parts) h x K = lost_it h K
+allocates_it (Ty-F.Aggregate number) h x K = lost_it h K
+allocates_it (Ty-F.Function returns parameters) h x K = lost_it h K
 
 gives_back_it : (t : Ty-F Ty) (a : ℕ) (h : Here) → HereIs h → NextIs h.program (gives_back t a h)
-gives_back_it (Ty-F.Chan element capacity) a h K = asks_it h (act.FreeChan a) (Answered ∷ []) K (tt, tt)
-gives_back_it (Ty-F.Pointer to) a h K = asks_it h (act.Free a Heap) (Answered ∷ []) K (tt, tt)
-gives_back_it Ty-F.Void a h K = asks_it h (act.Free a Heap) (Answered ∷ []) K (tt, tt)
-gives_back_it (Ty-F.Integer k) a h K = asks_it h (act.Free a Heap) (Answered ∷ []) K (tt, tt)
-gives_back_it (Ty-F.Array element count) a h K = asks_it h (act.Free a Heap) (Answered ∷ []) K (tt, tt)
-gives_back_it (Ty-F.Tuple parts) a h K = asks_it h (act.Free a Heap) (Answered ∷ []) K (tt, tt)
-gives_back_it (Ty-F.Aggregate number) a h K = asks_it h (act.Free a Heap) (Answered ∷ []) K (tt, tt)
-gives_back_it (Ty-F.Function returns parameters) a h K = asks_it h (act.Free a Heap) (Answered ∷ []) K (tt, tt)
+gives_back_it (Ty-F.Chan element capacity) a h K = asks_it h (act.FreeChan a) (Answered ∷ []) (tt, omega arith) K (tt, tt)
+gives_back_it (Ty-F.Pointer to) a h K = asks_it h (act.Free a Heap) (Answered ∷ []) (tt, omega arith) K (tt, tt)
+gives_back_it Ty-F.Void a h K = asks_it h (act.Free a Heap) (Answered ∷ []) (tt, omega arith) K (tt, tt)
+gives_back_it (Ty-F.Integer k) a h K = asks_it h (act.Free a Heap) (Answered ∷ []) (tt, omega arith) K (tt, tt)
+gives_back_it (Ty-F.Array element count) a h K = asks_it h (act.Free a Heap) (Answered ∷ []) (tt, omega arith) K (tt, tt)
+gives_back_it (Ty-F.Tuple parts) a h K = asks_it h (act.Free a Heap) (Answered ∷ []) (tt, omega arith) K (tt, tt)
+gives_back_it (Ty-F.Aggregate number) a h K = asks_it h (act.Free a Heap) (Answered ∷ []) (tt, omega arith) K (tt, tt)
+gives_back_it (Ty-F.Function returns parameters) a h K = asks_it h (act.Free a Heap) (Answered ∷ []) (tt, omega arith) K (tt, tt)
 
 -- ---- loops
 
@@ -277,6 +280,22 @@ bounds_length [] = omega arith
 bounds_length (a ∷ []) = omega arith
 bounds_length (a ∷ b ∷ values) = omega (arith, bounds_length values)
 
+-- ---- an alt
+
+few_cases : {m : _} (row : Row_of-TStmt m) → length (communications (branchings row)) ≤ alt_cases row
+few_cases end_of-TStmt = omega arith
+few_cases (more_of-TStmt (AltCase c) rest) = omega (arith, few_cases rest)
+few_cases (more_of-TStmt s rest) = few_cases rest
+
+branch_count : (p : Program) (cs : List TCommunication) (values : List (List ℕ)) → length (alt_branches p cs values) ≡ length cs
+branch_count p [] values = refl
+branch_count p (c ∷ cs) values = omega (arith, branch_count p cs (drop (length (communication_exprs c)) values))
+
+few_branches : (p : Program) (n : ℕ) (s : TStmt) (values : List (List ℕ)) → In p n (Stands s) → length (alt_branches p (communications (cases_of s)) values) ≤ 64
+unfolding IsStatement
+few_branches p n (Alt' line shape body) values x = omega (arith, branch_count p (communications (branchings body)) values, few_cases body, x.term.1.0.1.0)
+few_branches p n _ values x = omega arith
+
 -- ---- one item
 
 pub step_it : (w : Work) (h : Here) → IsWellTyped h.program → HasRoom h.program → HereIs h → WorkIs h.program h.frame.function w → NextIs h.program (step_work w h)
@@ -322,15 +341,15 @@ step_it (Read t) h W R K x = place_it h (λ f h. read_place t f h) K (λ f found
 step_it (Look t) h W R K x =
     place_it h (λ f h. moves (with_work (Read t ∷ []) (with_found (f ∷ f ∷ h.frame.found) h))) K
     (λ f found. does_it (with_found (f ∷ f ∷ found) h) (Read t ∷ []) K (x, tt))
-step_it (Fetch at units got) h W R K x = fetch_it at units got h K
+step_it (Fetch at units got) h W R K x = fetch_it at units got h x K
 step_it (Fetched at units got) h W R K x =
     value_it h (λ ws h. does h (Fetch at units (got ++ slice_index ws 0 ∷ []) ∷ [])) K
-    (λ ws found. does_it (with_found found h) (Fetch at units (got ++ slice_index ws 0 ∷ []) ∷ []) K (tt, tt))
+    (λ ws found. does_it (with_found found h) (Fetch at units (got ++ slice_index ws 0 ∷ []) ∷ []) K (x, tt))
 step_it (Save t words place) h W R K x = save_it t words place h K
 step_it (Put t) h W R K x =
     value_it h (λ ws h. with_place h (λ f h. does h (Save t ws f ∷ []))) K
     (λ ws found. place_it (with_found found h) (λ f h. does h (Save t ws f ∷ [])) K (λ f found. does_it (with_found found h) (Save t ws f ∷ []) K (x, tt)))
-step_it (Write at units words) h W R K x = write_it at units words h K
+step_it (Write at units words) h W R K x = write_it at units words h x K
 step_it (Assign target) h W R K x =
     value_it h (λ ws h. places_before (length (leaves_of target)) [] h (λ places h. does h (saves h.program (leaves_of target) places ws ++ Give ws ∷ []))) K
     (λ ws found. places_it (length (leaves_of target)) [] (with_found found h) (λ places h. does h (saves h.program (leaves_of target) places ws ++ Give ws ∷ [])) K
@@ -369,7 +388,7 @@ step_it (InvokeInstead function count) h W R K x =
     (λ values found. block_it (with_found found h) (Replace function (joined values)) (moves (only (with_found found h) (Replace function (joined values) ∷ []))) K tt
     (goes_on (only (with_found found h) (Replace function (joined values) ∷ [])) (only_is (with_found found h) (Replace function (joined values)) K tt)))
 step_it (Replace function words) h W R K x = K.1
-step_it TakeBlock h W R K x = asks_it h (act.Alloc (block_size h.program (locals_of (function_here h))) FrameBlock) (Answered ∷ []) K (tt, tt)
+step_it TakeBlock h W R K x = asks_it h (act.Alloc (block_size h.program (locals_of (function_here h))) FrameBlock) (Answered ∷ []) (block_some h.program W R h.frame.function, omega arith) K (tt, tt)
 step_it SetBlock h W R K x =
     value_it h (λ ws h. moves (record h { frame = record h.frame { block = slice_index ws 0 } })) K
     (λ ws found. goes_on (record h { frame = record h.frame { block = slice_index ws 0; found = found } }) K)
@@ -387,28 +406,28 @@ step_it (Scanned at pieces arguments text) h W R K x =
     value_it h (λ ws h. scanned (slice_index ws 0) at pieces arguments text h) K (λ ws found. scanned_it (slice_index ws 0) at pieces arguments text (with_found found h) K)
 step_it Terminates h W R K x =
     value_it h (λ ws h. asks h (act.Terminate (cast_signed w32 (slice_index ws 0))) (Answered ∷ [])) K
-    (λ ws found. asks_it (with_found found h) (act.Terminate (cast_signed w32 (slice_index ws 0))) (Answered ∷ []) K (tt, tt))
+    (λ ws found. asks_it (with_found found h) (act.Terminate (cast_signed w32 (slice_index ws 0))) (Answered ∷ []) (tt, omega arith) K (tt, tt))
 step_it (Receives t) h W R K x =
     value_it h (λ ws h. asks h (act.Talk (receiving h.program t (slice_index ws 0) ∷ [])) (Received t ∷ [])) K
-    (λ ws found. asks_it (with_found found h) (act.Talk (receiving h.program t (slice_index ws 0) ∷ [])) (Received t ∷ []) K (x, tt))
+    (λ ws found. asks_it (with_found found h) (act.Talk (receiving h.program t (slice_index ws 0) ∷ [])) (Received t ∷ []) (tt, omega arith) K (x, tt))
 step_it (Received t) h W R K x =
     value_it h (λ ws h. gives h (fitted_to (units_in h.program t) (drop 1 ws))) K (λ ws found. gives_it (with_found found h) (fitted_to (units_in h.program t) (drop 1 ws)) K)
 step_it (Sends t) h W R K x =
     two_it h (λ c ws h. asks h (act.Talk (sending h.program t (slice_index c 0) ws ∷ [])) (Drop ∷ [])) K
-    (λ c ws found. asks_it (with_found found h) (act.Talk (sending h.program t (slice_index c 0) ws ∷ [])) (Drop ∷ []) K (tt, tt))
+    (λ c ws found. asks_it (with_found found h) (act.Talk (sending h.program t (slice_index c 0) ws ∷ [])) (Drop ∷ []) (tt, omega arith) K (tt, tt))
 step_it CanReceives h W R K x =
-    value_it h (λ ws h. asks h (act.CanRecv (slice_index ws 0)) (Answered ∷ [])) K (λ ws found. asks_it (with_found found h) (act.CanRecv (slice_index ws 0)) (Answered ∷ []) K (tt, tt))
+    value_it h (λ ws h. asks h (act.CanRecv (slice_index ws 0)) (Answered ∷ [])) K (λ ws found. asks_it (with_found found h) (act.CanRecv (slice_index ws 0)) (Answered ∷ []) (tt, omega arith) K (tt, tt))
 step_it CanSends h W R K x =
-    value_it h (λ ws h. asks h (act.CanSend (slice_index ws 0)) (Answered ∷ [])) K (λ ws found. asks_it (with_found found h) (act.CanSend (slice_index ws 0)) (Answered ∷ []) K (tt, tt))
-step_it (Allocate t) h W R K x = allocates_it (out-Ty t) h K
+    value_it h (λ ws h. asks h (act.CanSend (slice_index ws 0)) (Answered ∷ [])) K (λ ws found. asks_it (with_found found h) (act.CanSend (slice_index ws 0)) (Answered ∷ []) (tt, omega arith) K (tt, tt))
+step_it (Allocate t) h W R K x = allocates_it (out-Ty t) h x.1 K
 step_it (Unallocate t) h W R K x =
     value_it h (λ ws h. gives_back (out-Ty t) (slice_index ws 0) h) K (λ ws found. gives_back_it (out-Ty t) (slice_index ws 0) (with_found found h) K)
 step_it (StartProc function count) h W R K x =
     values_it count [] h (λ values h. asks h (act.Proc (record { code = function; words = joined values })) (Answered ∷ [])) K
-    (λ values found. asks_it (with_found found h) (act.Proc (record { code = function; words = joined values })) (Answered ∷ []) K (tt, tt))
+    (λ values found. asks_it (with_found found h) (act.Proc (record { code = function; words = joined values })) (Answered ∷ []) (tt, omega arith) K (tt, tt))
 step_it (StartTask function count) h W R K x =
     values_it count [] h (λ values h. asks h (act.Task (record { code = function; words = joined values })) (Answered ∷ [])) K
-    (λ values found. asks_it (with_found found h) (act.Task (record { code = function; words = joined values })) (Answered ∷ []) K (tt, tt))
+    (λ values found. asks_it (with_found found h) (act.Task (record { code = function; words = joined values })) (Answered ∷ []) (tt, omega arith) K (tt, tt))
 step_it (Do s) h W R K x = do_it s h W R K x
 step_it (Choose chosen None) h W R K x =
     value_it h (λ a h. if is_zero a then moves h else starts h chosen) K
@@ -439,7 +458,7 @@ step_it (Select s) h W R K x = value_it h (λ ws h. select s (bits_of ws) h) K (
 step_it (AltTalk s) h W R K x =
     values_it (length (alt_exprs (communications (cases_of s)))) [] h
     (λ values h. asks h (act.Talk (alt_branches h.program (communications (cases_of s)) values)) (AltWent s ∷ [])) K
-    (λ values found. asks_it (with_found found h) (act.Talk (alt_branches h.program (communications (cases_of s)) values)) (AltWent s ∷ []) K (x, tt))
+    (λ values found. asks_it (with_found found h) (act.Talk (alt_branches h.program (communications (cases_of s)) values)) (AltWent s ∷ []) (tt, few_branches h.program h.frame.function s values x) K (x, tt))
 step_it (AltWent s) h W R K x =
     value_it h (λ ws h. goes_into h (slice_get (cases_of s) (slice_index ws 0)) (drop 1 ws)) K
     (λ ws found. went_it s (slice_index ws 0) (drop 1 ws) (with_found found h) W K x)

@@ -1,22 +1,28 @@
 -- What is known of the controls of a well-typed program: each term in them is well typed in the function of its frame, and
 -- each type in them is as small as the work with it needs.
-use Rattle.std.specs.Prelude.{◌≡◌, ℕ, ◌+◌, ◌<◌, ◌≤◌, ◌^◌, List, [], ◌∷◌, length, Option, Some, None, ⊤, ◌⊎◌}
+use Rattle.std.specs.Prelude.{slice_get, Bool, true, ◌≡◌, ℕ, ◌+◌, ◌<◌, ◌≤◌, ◌^◌, List, [], ◌∷◌, length, Option, Some, None, ⊤, ◌⊎◌}
 use Rattle.std.specs.List.{AllByRecursion}
 use Rattle.al_event.specs.declared.act.Act.{Act}
 use Rattle.al_world.specs.Control.{fitted}
 use Rattle.al_world.specs.Turns.{Moves, Turns, Asks}
-use Rattle.al_typed.specs.declared.ty.Ty.{out-Ty}
+use Rattle.al_typed.specs.declared.ty.Ty.{out-Ty, Ty}
 use Rattle.al_typed.specs.declared.program.Function.{Function as FunctionRow}
+use Rattle.al_typed.specs.declared.program.Aggregate.{Aggregate as AggregateRow}
 use Rattle.al_typed.specs.declared.program.Program.{Program}
 use Rattle.al_typed.specs.declared.statement.TStmt.{TStmt, Empty, Block', Declare, Value, If', Switch', Case, Default, Alt', AltCase, Par, Raise, Goto, Return, Become, Break, Continue, Alloc, Unalloc, Check, Proc, Task, Held-TStmt-If-3, Row_of-TStmt, end_of-TStmt, more_of-TStmt}
 use Rattle.al_typed.specs.declared.statement.TStmt as stmt
 use Rattle.al_typed.specs.StatementForms as part
 use Rattle.al_typed.specs.WellTyped.{Scope, Nest, IsValue, IsPlace, IsTarget, IsStatement}
 use Rattle.al_meaning.specs.Places.{block_place, block_sizes, function_at}
-use Rattle.al_meaning.specs.Items.{Found, Work, Eval, Find, Aim, AndThen, OrElse, Part, Read, Look, Save, Put, Assign, Update, Step, Clear, PassPlace, PassPointer, PassPart, Scanned, Receives, Received, Sends, Allocate, Do, Choose, WhileTest, WhileAgain, DoCondition, DoTest, ForCondition, ForTest, ForNext, ForAgain, Bound, Iterate, NextTurn, Select, AltTalk, AltWent, Item, Frame, Entering, Control}
-use Rattle.al_meaning.specs.Here.{Next, pointee}
+use Rattle.al_meaning.specs.Items.{Found, Work, Eval, Find, Aim, AndThen, OrElse, Part, Read, Look, Fetch, Fetched, Save, Put, Write, Assign, Update, Step, Clear, PassPlace, PassPointer, PassPart, Scanned, Receives, Received, Sends, Allocate, Do, Choose, WhileTest, WhileAgain, DoCondition, DoTest, ForCondition, ForTest, ForNext, ForAgain, Bound, Iterate, NextTurn, Select, AltTalk, AltWent, Item, Frame, Entering, Control}
+use Rattle.al_meaning.specs.Here.{Next, pointee, size_in}
 use Rattle.al_meaning.specs.Evaluate.{leaves_of}
 use Rattle.al_meaning.specs.Meaning.{resume}
+use Rattle.al_store.specs.Memory.{IsWidth}
+use Rattle.al_script.specs.Scripts.{IsSized}
+use Rattle.al_script.specs.Worlds.{branches_in}
+use Rattle.al_typed.specs.declared.layout.Unit.{Unit}
+use Rattle.al_typed.specs.declared.ty.Ty.TheOpen.{Ty-F}
 use Rattle.zz.specs.Small.{IsSmall}
 use Rattle.zz.specs.Parts.{PartFits}
 use Rattle.zz.specs.Places.{ChangeFits}
@@ -48,11 +54,13 @@ abbrev mutual
   HaveFewIterators (more_of-TStmt a rest) = HasFewIterators a × HaveFewIterators rest
 
 -- What the typing rules leave open. The blocks at the start lie below 2^32, as they do where there is a first world in a
--- region of at most 256 MiB; the values of functions' names are words; and statements have few iterators.
+-- region of at most 256 MiB; the values of functions' names are words; statements have few iterators; and a union has a member,
+-- so that a value of a complete type has a byte.
 pub record HasRoom (p : Program) : Type 0 where
   pub blocks : (n : ℕ) → n ≤ length (block_sizes p) → block_place p n < 2 ^ 32
   pub functions : length p.functions ≤ 2 ^ 28
   pub iterators : (number : ℕ) (f : FunctionRow) → function_at p number ≡ Some f → HasFewIterators f.body
+  pub unions : (k : ℕ) (a : AggregateRow) → slice_get p.aggregates k ≡ Some a → a.is_union ≡ true → a.members ≡ Some [] → ⊥
 
 -- ---- work
 
@@ -75,6 +83,15 @@ abbrev pub OtherStands : Option TStmt → Scope → Type 0
 OtherStands None scope = ⊤
 OtherStands (Some s) scope = Stands s scope
 
+-- each access of a value has 1, 2 or 4 bytes
+abbrev pub AreUnits : List Unit → Type 0
+AreUnits units = AllByRecursion (λ (u : Unit). IsWidth u.size) units
+
+-- a block that is allocated has a byte
+abbrev pub AllocatesSome : Program → Ty-F Ty → Type 0
+AllocatesSome p (Ty-F.Pointer to) = 0 < size_in p to
+AllocatesSome p _ = ⊤
+
 -- What is known of work in a frame of the function of that number.
 abbrev pub WorkIs : Program → ℕ → Work → Type 0
 WorkIs p f (Eval e) = In p f (λ s. IsValue s e)
@@ -85,8 +102,11 @@ WorkIs p f (OrElse right) = In p f (λ s. IsValue s right)
 WorkIs p f (Part t path) = PartFits p t path
 WorkIs p f (Read t) = IsSmall p t
 WorkIs p f (Look t) = IsSmall p t
+WorkIs p f (Fetch at units got) = AreUnits units
+WorkIs p f (Fetched at units got) = AreUnits units
 WorkIs p f (Save t words place) = IsSmall p t
 WorkIs p f (Put t) = IsSmall p t
+WorkIs p f (Write at units words) = AreUnits units
 WorkIs p f (Assign target) = AllByRecursion (IsSmall p) (leaves_of target)
 WorkIs p f (Update t change) = IsSmall p t × ChangeFits p t change
 WorkIs p f (Step t op) = IsSmall p t × IsSmall p (pointee t)
@@ -99,7 +119,7 @@ WorkIs p f (Scanned at pieces arguments text) = ⊥
 WorkIs p f (Receives t) = IsSmall p t
 WorkIs p f (Received t) = IsSmall p t
 WorkIs p f (Sends t) = IsSmall p t
-WorkIs p f (Allocate t) = AllocationFits p (out-Ty t)
+WorkIs p f (Allocate t) = AllocationFits p (out-Ty t) × AllocatesSome p (out-Ty t)
 WorkIs p f (Do s) = In p f (Stands s)
 WorkIs p f (Choose chosen other) = In p f (Stands chosen) × In p f (OtherStands other)
 WorkIs p f (WhileTest s) = In p f (Stands s)
@@ -148,8 +168,12 @@ ControlIs p c = FramesAre p c.entering c.frames
 abbrev pub WaitIs : Program → Act → Control → Type 0
 WaitIs p a c = (words : List ℕ) → ControlIs p (resume c (fitted a words))
 
+-- an action that a task asks: an access of 1, 2 or 4 bytes, a block of 1 byte at least, and few branches of a talk
+abbrev pub ActIs : Act → Type 0
+ActIs a = IsSized a × (branches_in a ≤ 64)
+
 -- what a private step comes to
 abbrev pub NextIs : Program → Next → Type 0
 NextIs p (Moves c u) = ControlIs p c
 NextIs p (Turns line c u) = ControlIs p c
-NextIs p (Asks a line c u) = WaitIs p a c
+NextIs p (Asks a line c u) = ActIs a × WaitIs p a c
