@@ -75,6 +75,15 @@ unfolding in_order
 no_block p = omega arith
 
 
+-- a function that begins has small locals
+pub begin_fits : (p : Program) → IsWellTyped p → (n : ℕ) → BeginFits p n
+begin_fits p W n = on (function_at p n) refl
+  where
+    on : (o : Option FunctionRow) → function_at p n ≡ o → AreSmall p (locals_of o)
+    on None e = All-nil (λ (l : LocalRow). IsSmall p l.ty)
+    on (Some f) e =
+        All-weaker (IsLocalOf p) (λ (l : LocalRow). IsSmall p l.ty) (λ l s. sound_small p l.ty (and_parts _ _ s.0).0) f.locals (W.functions n f e).locals
+
 module _ (p : Program) (W : IsWellTyped p) (R : HasRoom p) where
   global_fits : (number : ℕ) → global_place p number < 2 ^ 32
   global_fits number = R.blocks (shared_before p number) (omega (arith, block_count p, kept_fewer is_shared_global number p.globals))
@@ -98,14 +107,6 @@ module _ (p : Program) (W : IsWellTyped p) (R : HasRoom p) where
       on : (o : Option FunctionRow) → function_at p n ≡ o → block_size p (locals_of o) < 2 ^ 32
       on None e = omega (arith, no_block p)
       on (Some f) e = omega (arith, leb-true (block_size p f.locals) (2 ^ 28) (W.functions n f e).shared)
-
-  pub begin_fits : (n : ℕ) → BeginFits p n
-  begin_fits n = on (function_at p n) refl
-    where
-      on : (o : Option FunctionRow) → function_at p n ≡ o → AreSmall p (locals_of o)
-      on None e = All-nil (λ (l : LocalRow). IsSmall p l.ty)
-      on (Some f) e =
-          All-weaker (IsLocalOf p) (λ (l : LocalRow). IsSmall p l.ty) (λ l s. sound_small p l.ty (and_parts _ _ s.0).0) f.locals (W.functions n f e).locals
 
   end_fits : (n : ℕ) → EndFits p (function_at p n)
   end_fits n = on (function_at p n) refl
@@ -269,7 +270,7 @@ work_fits (Update t change) h W R x = x.1
 work_fits (Step t op) h W R x = x.1
 work_fits (Clear t) h W R x = few_words h.program t x
 work_fits (PassPart how t path) h W R x = x
-work_fits (Enter function words) h W R x = begin_fits h.program W R function
+work_fits (Enter function words) h W R x = begin_fits h.program W function
 work_fits TakeBlock h W R x = block_fits h.program W R h.frame.function
 work_fits (StoreParameter number words) h W R x = parameter_fits h.program W R h.frame.function number
 work_fits (Scanned at pieces arguments text) h W R x = absurd x
@@ -299,7 +300,7 @@ module _ (p : Program) (W : IsWellTyped p) (R : HasRoom p) where
   ]
 
   entering_fits : (c : Control) (e : Option Entering) (frames : List Frame) (privates : List ℕ) → c.frames ≡ frames → FramesAre p e frames → EnteringFits p c e privates
-  entering_fits c (Some e) frames privates is K = begin_fits p W R e.function
+  entering_fits c (Some e) frames privates is K = begin_fits p W e.function
   entering_fits c None [] privates is K = subst (λ fs. FramesFit p fs privates) (sym is) tt
   entering_fits c None (f ∷ below) privates is K = subst (λ fs. FramesFit p fs privates) (sym is) (frame_fits f.items f below privates K.0)
 

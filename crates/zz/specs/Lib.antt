@@ -10,3 +10,4 @@ pub mod Works
 pub mod Asks
 pub mod Fitting
 pub mod Controls
+pub mod Laws
