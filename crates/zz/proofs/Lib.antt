@@ -3,6 +3,7 @@ pub mod Members
 pub mod Sound
 pub mod Going
 pub mod Units
+pub mod Within
 pub mod Bytes
 pub mod Terms
 pub mod Statements

@@ -1,0 +1,13 @@
+pub mod Sizes
+pub mod Members
+pub mod Sound
+pub mod Going
+pub mod Units
+pub mod Bytes
+pub mod Terms
+pub mod Statements
+pub mod Doing
+pub mod Working
+pub mod Keeping
+pub mod Rooms
+pub mod Runs
