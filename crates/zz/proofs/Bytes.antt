@@ -21,7 +21,7 @@ use Rattle.al_typed.specs.WellTyped.{IsWellTyped, IsLocalOf, is_sound, are_sound
 use Rattle.al_typed.proofs.Placing.{in_order-end}
 use Rattle.al_typed.proofs.CappedLemmas.{rounded_above}
 use Rattle.al_meaning.specs.Places.{block_size, function_at, locals_of, shared_layouts}
-use Rattle.zz.specs.Controls.{HasRoom}
+use Rattle.zz.specs.Controls.{UnionsHaveMembers}
 use Rattle.zz.proofs.Members.{aggregate_size, all_at, union_covers}
 use Rattle.zz.proofs.Units.{IsSplit, fold_all_split, known_after_split, layouts_split}
 
@@ -71,7 +71,7 @@ taken (suc n) k [] x e = absurd (cc)
 taken (suc n) zero (y ∷ xs) x e = (omega arith, e)
 taken (suc n) (suc k) (y ∷ xs) x e = let rest = taken n k xs x e in (omega (arith, rest.0), rest.1)
 
-module _ (p : Program) (W : IsWellTyped p) (R : HasRoom p) where
+module _ (p : Program) (W : IsWellTyped p) (U : UnionsHaveMembers p) where
   abbrev Some_of : ℕ → Type 0
   Some_of k = (t : Ty) → is_sound p.aggregates t ≡ true → is_complete (take k p.aggregates) t ≡ true → 1 ≤ size_of p.aggregates t
 
@@ -98,7 +98,7 @@ module _ (p : Program) (W : IsWellTyped p) (R : HasRoom p) where
           subst (λ (o : Option (List Ty)). All (λ t. is_complete (take number p.aggregates) t ≡ true) (unwrap_or o [])) m (W.laid_out.ordered number a e) in
           let stored : All (λ t. is_stored p.aggregates t ≡ true) ms =
           subst (λ (o : Option (List Ty)). All (λ t. is_stored p.aggregates t ≡ true) (unwrap_or o [])) m (W.members number a e) in
-          let some = members_some a.is_union ms (λ u n. R.unions number a e u (m ∙ ap Some n))
+          let some = members_some a.is_union ms (λ u n. U number a e u (m ∙ ap Some n))
           (λ t rest is. more number lt t
           (and_parts _ _ (all_at (λ t. is_stored p.aggregates t ≡ true) ms 0 t stored (ap (λ l. slice_get l 0) is))).0
           (all_at (λ t. is_complete (take number p.aggregates) t ≡ true) ms 0 t ordered (ap (λ l. slice_get l 0) is))) in

@@ -71,7 +71,7 @@ allocates_some p W R t s (inl h) = on (out-Ty t) (sym (roll-out-Ty t)) h
   where
     on : (y : Ty-F Ty) → t ≡ roll-Ty y → points_to_complete_at p.aggregates y ≡ true → AllocatesSome p y
     on (Ty-F.Pointer to) e h =
-        some_bytes p W R to (sym (sound_pointer p.aggregates to) ∙ (sym (ap (is_sound p.aggregates) (e ∙ ty.rolls-Pointer to)) ∙ s)) h
+        some_bytes p W R.unions to (sym (sound_pointer p.aggregates to) ∙ (sym (ap (is_sound p.aggregates) (e ∙ ty.rolls-Pointer to)) ∙ s)) h
     on _ e h = tt
 allocates_some p W R t s (inr h) = subst (λ t. AllocatesSome p (out-Ty t)) (sym h.1.1) tt
 

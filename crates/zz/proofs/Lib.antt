@@ -5,6 +5,7 @@ pub mod Going
 pub mod Units
 pub mod Within
 pub mod Bytes
+pub mod Blocks
 pub mod Terms
 pub mod Statements
 pub mod Doing

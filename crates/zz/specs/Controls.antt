@@ -53,14 +53,23 @@ abbrev mutual
   HaveFewIterators end_of-TStmt = ⊤
   HaveFewIterators (more_of-TStmt a rest) = HasFewIterators a × HaveFewIterators rest
 
--- What the typing rules leave open. The blocks at the start lie below 2^32, as they do where there is a first world in a
--- region of at most 256 MiB; the values of functions' names are words; statements have few iterators; and a union has a member,
--- so that a value of a complete type has a byte.
+-- a union has a member
+abbrev pub UnionsHaveMembers : Program → Type 0
+UnionsHaveMembers p = (k : ℕ) (a : AggregateRow) → slice_get p.aggregates k ≡ Some a → a.is_union ≡ true → a.members ≡ Some [] → ⊥
+
+-- What well-typed programs leave open: the values of functions' names are words, statements have few iterators, and values of
+-- complete types have a byte.
+pub record IsModest (p : Program) : Type 0 where
+  pub functions : length p.functions ≤ 2 ^ 28
+  pub iterators : (number : ℕ) (f : FunctionRow) → function_at p number ≡ Some f → HasFewIterators f.body
+  pub unions : UnionsHaveMembers p
+
+-- and the blocks at the start lie below 2^32, as they do where there is a first world in a region of at most 256 MiB
 pub record HasRoom (p : Program) : Type 0 where
   pub blocks : (n : ℕ) → n ≤ length (block_sizes p) → block_place p n < 2 ^ 32
   pub functions : length p.functions ≤ 2 ^ 28
   pub iterators : (number : ℕ) (f : FunctionRow) → function_at p number ≡ Some f → HasFewIterators f.body
-  pub unions : (k : ℕ) (a : AggregateRow) → slice_get p.aggregates k ≡ Some a → a.is_union ≡ true → a.members ≡ Some [] → ⊥
+  pub unions : UnionsHaveMembers p
 
 -- ---- work
 
