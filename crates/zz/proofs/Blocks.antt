@@ -48,11 +48,11 @@ each_in_order P x (y ∷ ys) h k = on (nat_lt x.at y.at) (each_in_order P x ys h
 -- ---- blocks one after the other
 
 -- all multiples of 8 before the end lie in blocks, and no block goes past it
-record Filled (store : List Live) (end : ℕ) : Type 0 where
-  from : region_base ≤ end
-  aligned : end % 8 ≡ 0
-  before : AllByRecursion (λ (b : Live). b.at + length b.bytes ≤ end) store
-  covered : (k n : ℕ) → region_base ≤ k → k < end → k % 8 ≡ 0 → 1 ≤ n → list_any (overlaps k n) (spans_of store) ≡ true
+pub record Filled (store : List Live) (end : ℕ) : Type 0 where
+  pub from : region_base ≤ end
+  pub aligned : end % 8 ≡ 0
+  pub before : AllByRecursion (λ (b : Live). b.at + length b.bytes ≤ end) store
+  pub covered : (k n : ℕ) → region_base ≤ k → k < end → k % 8 ≡ 0 → 1 ≤ n → list_any (overlaps k n) (spans_of store) ≡ true
 
 all_clear : (end n : ℕ) (store : List Live) → AllByRecursion (λ (b : Live). b.at + length b.bytes ≤ end) store → list_any (overlaps end n) (spans_of store) ≡ false
 all_clear end n [] h = refl
@@ -110,7 +110,7 @@ module _ (region : ℕ) (store : List Live) (end n : ℕ) (F : Filled store end)
           any_one (overlaps k m) b store (and_from _ _ (lt-ltb k (b.at + length b.bytes) (omega arith)) (lt-ltb b.at (k + m) (omega arith)))
 
 -- the places of blocks that found room
-all_placed : (region : ℕ) (blocks : List (List ℕ)) (store : List Live) (end : ℕ) (r : List Live) → Filled store end → end ≤ region_base + region + 7
+pub all_placed : (region : ℕ) (blocks : List (List ℕ)) (store : List Live) (end : ℕ) (r : List Live) → Filled store end → end ≤ region_base + region + 7
     → AllByRecursion (λ (b : List ℕ). 1 ≤ length b) blocks → with_globals region blocks store ≡ Some r
     → (n : ℕ) → fold behind end (take n (map length blocks)) ≤ region_base + region + 7
 all_placed region [] store end r F le some e zero = le

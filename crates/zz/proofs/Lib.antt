@@ -6,6 +6,7 @@ pub mod Units
 pub mod Within
 pub mod Bytes
 pub mod Blocks
+pub mod Opened
 pub mod Terms
 pub mod Statements
 pub mod Doing
