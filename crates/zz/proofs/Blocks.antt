@@ -1,12 +1,11 @@
 -- Where there is a first world, all blocks at the start lie in the region.
-use Rattle.std.proofs.Common.{◌≡◌, ℕ, zero, suc, ◌+◌, ◌-◌, ◌*◌, ◌%◌, ◌<◌, ◌≤◌, ◌⊎◌, Bool, true, false, ◌&&◌, ◌||◌, if◌then◌else◌, List, [], ◌∷◌, ◌++◌, map, length, take, drop, Option, Some, None, refl, ap, ap₂, sym, ◌∙◌, subst, arith, inl, inr}
-use Rattle.std.specs.Prelude.{⊤, ◌^◌, not, nat_lt, nat_le, All, Contains, filter, fold, replicate, option_and_then, IsTrue}
+use Rattle.std.proofs.Common.{◌≡◌, ℕ, zero, suc, ◌+◌, ◌%◌, ◌<◌, ◌≤◌, ◌⊎◌, Bool, true, false, ◌||◌, if◌then◌else◌, List, [], ◌∷◌, map, length, take, Option, Some, None, refl, ap, arith, inl, inr}
+use Rattle.std.specs.Prelude.{not, nat_lt, nat_le, fold, option_and_then}
 use Rattle.std.specs.List.{AllByRecursion, list_any}
-use Rattle.std.specs.Int.{div_ceil}
 use Rattle.std.proofs.lemmas.Grind.{div_ceil_times}
-use Rattle.std.proofs.lemmas.Bool.{and_parts, and_from, and_left, or_left, or_right, or_from, le-ltb, cases_order, cases_lt, leb-true, le-leb, lt-ltb, ltb-true}
+use Rattle.std.proofs.lemmas.Bool.{and_parts, and_from, and_left, or_left, or_right, or_from, le-ltb, cases_order, cases_lt, leb-true, le-leb, lt-ltb}
 use Rattle.al_event.specs.declared.act.Block.TheVariants.{Global as GlobalBlock}
-use Rattle.al_event.specs.Store.{Live, Span, IsPlace, IsLeast, has_room, in_order, least, most_blocks, new_place, overlaps, region_base, span_of, spans_of, with_block}
+use Rattle.al_event.specs.Store.{Live, Span, IsPlace, IsLeast, in_order, least, most_blocks, new_place, overlaps, region_base, span_of, spans_of, with_block}
 use Rattle.al_event.proofs.Least.{least_is}
 use Rattle.al_world.specs.Step.{with_globals}
 use Rattle.al_meaning.specs.Places.{behind}

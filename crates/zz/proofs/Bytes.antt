@@ -1,6 +1,6 @@
 -- A value of a complete type has a byte at least, where each union has a member.
-use Rattle.std.proofs.Common.{◌≡◌, ℕ, zero, suc, ◌+◌, ◌*◌, ◌<◌, ◌≤◌, Bool, true, false, ◌&&◌, List, [], ◌∷◌, ◌++◌, map, length, take, Option, Some, None, refl, ap, sym, ◌∙◌, subst, arith, inl, inr}
-use Rattle.std.specs.Prelude.{⊤, All, slice_get, unwrap_or, filter, fold, is_some, nat_le}
+use Rattle.std.proofs.Common.{◌≡◌, ℕ, zero, suc, ◌*◌, ◌<◌, ◌≤◌, Bool, true, false, List, [], ◌∷◌, map, length, take, Option, Some, None, refl, ap, ◌∙◌, subst, arith, inl, inr}
+use Rattle.std.specs.Prelude.{All, slice_get, unwrap_or, filter, fold, is_some}
 use Rattle.std.specs.List.{AllByRecursion, list_all}
 use Rattle.std.proofs.lemmas.Bool.{and_parts, leb-true}
 use Rattle.std.proofs.lemmas.List.{take_all}
@@ -14,13 +14,13 @@ use Rattle.al_typed.specs.declared.program.Function.{Function as FunctionRow}
 use Rattle.al_typed.specs.declared.program.Program.{Program}
 use Rattle.al_typed.specs.declared.ty.Ty.{Ty, Void, Integer, Pointer', Array', Chan', Tuple', Aggregate as Aggregate_, Function', Row_of-Ty, end_of-Ty, more_of-Ty}
 use Rattle.al_typed.specs.declared.ty.Ty.TheVariants as ty
-use Rattle.al_typed.specs.TyFold.{fold_ty, fold_types}
+use Rattle.al_typed.specs.TyFold.{fold_types}
 use Rattle.al_typed.specs.Types.{bytes_of, has_body, is_complete, is_complete_step}
-use Rattle.al_typed.specs.Layout.{Layout, Run, rounded, layout, layout_of, layout_step, layouts_after, members_layout, members_of, of_bytes, repeated, in_order, followed, begun, size_of}
+use Rattle.al_typed.specs.Layout.{Layout, Run, layout, layout_of, layout_step, layouts_after, members_layout, of_bytes, repeated, in_order, followed, begun, size_of}
 use Rattle.al_typed.specs.WellTyped.{IsWellTyped, IsLocalOf, is_sound, are_sound, is_stored, shared_types}
 use Rattle.al_typed.proofs.Placing.{in_order-end}
 use Rattle.al_typed.proofs.CappedLemmas.{rounded_above}
-use Rattle.al_meaning.specs.Places.{block_size, function_at, locals_of, shared_layouts}
+use Rattle.al_meaning.specs.Places.{block_size, function_at, locals_of}
 use Rattle.zz.specs.Controls.{UnionsHaveMembers}
 use Rattle.zz.proofs.Members.{aggregate_size, all_at, union_covers}
 use Rattle.zz.proofs.Units.{IsSplit, fold_all_split, known_after_split, layouts_split}

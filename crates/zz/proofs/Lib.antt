@@ -7,6 +7,7 @@ pub mod Within
 pub mod Bytes
 pub mod Blocks
 pub mod Opened
+pub mod Starting
 pub mod Terms
 pub mod Statements
 pub mod Doing

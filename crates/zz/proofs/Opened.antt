@@ -1,14 +1,13 @@
 -- A first world that is not over has room for all that starts.
-use Rattle.std.proofs.Common.{◌≡◌, ℕ, zero, suc, ◌+◌, ◌/◌, ◌%◌, ◌<◌, ◌≤◌, Bool, true, false, if◌then◌else◌, List, [], ◌∷◌, ◌++◌, map, length, length-append, take, drop, Option, Some, None, refl, ap, ap₂, sym, ◌∙◌, subst, arith}
-use Rattle.std.specs.Prelude.{⊤, ◌^◌, All, Contains, filter, fold, replicate, option_and_then}
+use Rattle.std.proofs.Common.{◌≡◌, ℕ, zero, suc, ◌+◌, ◌/◌, ◌<◌, ◌≤◌, List, [], ◌∷◌, ◌++◌, map, length, length-append, take, drop, Option, Some, None, refl, ap, ap₂, sym, ◌∙◌, arith}
+use Rattle.std.specs.Prelude.{◌^◌, filter, fold, replicate}
 use Rattle.std.specs.List.{AllByRecursion}
 use Rattle.std.proofs.lemmas.Bool.{and_parts}
 use Rattle.std.proofs.lemmas.List.{length-take, length-drop, length-replicate, map-append}
 use Rattle.std.proofs.lemmas.List.Elements.{All-contains, All-filter, All-from_recursion, recursion_from_All}
-use Rattle.al_base.specs.declared.over.Over.{Over}
 use Rattle.al_event.specs.declared.entry.Entry.{Entry}
 use Rattle.al_event.specs.Store.{Live, bytes_of, overwritten, region_base}
-use Rattle.al_world.specs.World.{TaskName, World}
+use Rattle.al_world.specs.World.{World}
 use Rattle.al_world.specs.Step.{opening, opening_with, step, with_globals}
 use Rattle.al_world.specs.Step as world
 use Rattle.al_typed.specs.declared.layout.Unit.{Unit}
@@ -16,7 +15,8 @@ use Rattle.al_typed.specs.declared.program.Global.{Global}
 use Rattle.al_typed.specs.declared.program.StartValue.{StartValue}
 use Rattle.al_typed.specs.declared.program.Program.{Program}
 use Rattle.al_typed.specs.Layout.{size_of, units_of}
-use Rattle.al_typed.specs.WellTyped.{IsGlobal, IsWellTyped, Starts}
+use Rattle.al_typed.specs.Types.{is_complete}
+use Rattle.al_typed.specs.WellTyped.{IsGlobal, IsWellTyped, Starts, is_sound}
 use Rattle.al_meaning.specs.Places.{behind, block_place, block_sizes, global_bytes, is_shared_global, opening_blocks, start_number, with_start}
 use Rattle.al_meaning.specs.Meaning.{main_start, run, source}
 use Rattle.zz.specs.Controls.{HasRoom, IsModest, UnionsHaveMembers}
@@ -81,7 +81,7 @@ module _ (p : Program) (W : IsWellTyped p) (U : UnionsHaveMembers p) where
   globals_some : (gs : List Global) → AllByRecursion (IsGlobal p) gs → AllByRecursion (λ (b : List ℕ). 1 ≤ length b) (map (global_bytes p) gs)
   globals_some [] h = tt
   globals_some (g ∷ gs) h =
-      let stored = and_parts _ _ h.0.stored in
+      let stored = and_parts (is_sound p.aggregates g.ty) (is_complete p.aggregates g.ty) h.0.stored in
       (omega (arith, length-global p g h.0, some_bytes p W U g.ty stored.0 stored.1), globals_some gs h.1)
 
   texts_some : (texts : List (List ℕ)) → AllByRecursion (λ (b : List ℕ). 1 ≤ length b) (map (λ s. s ++ 0 ∷ []) texts)

@@ -1,6 +1,6 @@
 -- Units lie in their values.
-use Rattle.std.proofs.Common.{◌≡◌, ℕ, zero, suc, ◌+◌, ◌*◌, ◌/◌, ◌<◌, ◌≤◌, max, Bool, true, false, List, [], ◌∷◌, ◌++◌, map, length, Option, Some, None, refl, ap, sym, ◌∙◌, subst, arith, inl, inr}
-use Rattle.std.specs.Prelude.{⊤, ◌⊎◌, slice_get, unwrap_or, fold}
+use Rattle.std.proofs.Common.{◌≡◌, ℕ, zero, suc, ◌+◌, ◌*◌, ◌/◌, ◌≤◌, Bool, true, false, List, [], ◌∷◌, ◌++◌, map, Option, Some, None, refl, sym, subst, arith}
+use Rattle.std.specs.Prelude.{slice_get, unwrap_or, fold}
 use Rattle.std.specs.List.{AllByRecursion, flat_map, range_with_len}
 use Rattle.al_base.specs.declared.arith.Kind.{Kind}
 use Rattle.al_base.specs.declared.arith.Kind.TheVariants.{Byte, Sint, Usint, Int, Uint, Lint, Ulint}
@@ -9,9 +9,9 @@ use Rattle.al_typed.specs.declared.program.Aggregate.{Aggregate}
 use Rattle.al_typed.specs.declared.ty.Ty.{Ty, Void, Integer, Pointer', Array', Chan', Tuple', Aggregate as Aggregate_, Function', Row_of-Ty, end_of-Ty, more_of-Ty}
 use Rattle.al_typed.specs.TyFold.{fold_ty, fold_types}
 use Rattle.al_typed.specs.Types.{bytes_of}
-use Rattle.al_typed.specs.Layout.{Layout, Run, Extent, rounded, layout, layout_of, layout_step, layouts_after, aggregate_layout, body_layout, members_layout, nothing, of_bytes, repeated, in_order, over_each_other, followed, widened, piled, begun, moved, unit_at, units_of, size_of}
+use Rattle.al_typed.specs.Layout.{Layout, Run, Extent, rounded, layout, layout_of, layout_step, layouts_after, aggregate_layout, body_layout, members_layout, nothing, of_bytes, repeated, in_order, over_each_other, followed, widened, begun, moved, unit_at, units_of, size_of}
 use Rattle.al_typed.proofs.CappedLemmas.{rounded_above}
-use Rattle.al_typed.proofs.Fitting.{AllFit, IsFit, layout_of_fits, layouts_of_fit, layouts_after_fit, aggregate_fits, AllFit-append}
+use Rattle.al_typed.proofs.Fitting.{AllFit, layout_of_fits, layouts_of_fit, layouts_after_fit, aggregate_fits, AllFit-append}
 use Rattle.al_typed.proofs.Placing.{in_order-end}
 use Rattle.zz.proofs.Going.{each_append}
 

@@ -8,6 +8,7 @@ pub mod Actions
 pub mod Cases
 pub mod Works
 pub mod Asks
+pub mod Openings
 pub mod Fitting
 pub mod Controls
 pub mod Laws
