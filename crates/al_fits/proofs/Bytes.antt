@@ -1,6 +1,6 @@
 -- A value of a complete type has a byte at least, where each union has a member.
-use Rattle.std.proofs.Common.{◌≡◌, ℕ, zero, suc, ◌+◌, ◌*◌, ◌<◌, ◌≤◌, Bool, true, false, ◌&&◌, List, [], ◌∷◌, ◌++◌, map, length, take, Option, Some, None, refl, ap, sym, ◌∙◌, subst, arith, inl, inr}
-use Rattle.std.specs.Prelude.{⊤, All, slice_get, unwrap_or, filter, fold, is_some, nat_le}
+use Rattle.std.proofs.Common.{◌≡◌, ℕ, zero, suc, ◌*◌, ◌<◌, ◌≤◌, Bool, true, false, List, [], ◌∷◌, map, length, take, Option, Some, None, refl, ap, ◌∙◌, subst, arith, inl, inr}
+use Rattle.std.specs.Prelude.{All, slice_get, unwrap_or, filter, fold, is_some}
 use Rattle.std.specs.List.{AllByRecursion, list_all}
 use Rattle.std.proofs.lemmas.Bool.{and_parts, leb-true}
 use Rattle.std.proofs.lemmas.List.{take_all}
@@ -14,14 +14,14 @@ use Rattle.al_typed.specs.declared.program.Function.{Function as FunctionRow}
 use Rattle.al_typed.specs.declared.program.Program.{Program}
 use Rattle.al_typed.specs.declared.ty.Ty.{Ty, Void, Integer, Pointer', Array', Chan', Tuple', Aggregate as Aggregate_, Function', Row_of-Ty, end_of-Ty, more_of-Ty}
 use Rattle.al_typed.specs.declared.ty.Ty.TheVariants as ty
-use Rattle.al_typed.specs.TyFold.{fold_ty, fold_types}
+use Rattle.al_typed.specs.TyFold.{fold_types}
 use Rattle.al_typed.specs.Types.{bytes_of, has_body, is_complete, is_complete_step}
-use Rattle.al_typed.specs.Layout.{Layout, Run, rounded, layout, layout_of, layout_step, layouts_after, members_layout, members_of, of_bytes, repeated, in_order, followed, begun, size_of}
+use Rattle.al_typed.specs.Layout.{Layout, Run, layout, layout_of, layout_step, layouts_after, members_layout, of_bytes, repeated, in_order, followed, begun, size_of}
 use Rattle.al_typed.specs.WellTyped.{IsWellTyped, IsLocalOf, is_sound, are_sound, is_stored, shared_types}
 use Rattle.al_typed.proofs.Placing.{in_order-end}
 use Rattle.al_typed.proofs.CappedLemmas.{rounded_above}
-use Rattle.al_meaning.specs.Places.{block_size, function_at, locals_of, shared_layouts}
-use Rattle.al_fits.specs.Controls.{HasRoom}
+use Rattle.al_meaning.specs.Places.{block_size, function_at, locals_of}
+use Rattle.al_fits.specs.Controls.{UnionsHaveMembers}
 use Rattle.al_fits.proofs.Members.{aggregate_size, all_at, union_covers}
 use Rattle.al_fits.proofs.Units.{IsSplit, fold_all_split, known_after_split, layouts_split}
 
@@ -71,7 +71,7 @@ taken (suc n) k [] x e = absurd (cc)
 taken (suc n) zero (y ∷ xs) x e = (omega arith, e)
 taken (suc n) (suc k) (y ∷ xs) x e = let rest = taken n k xs x e in (omega (arith, rest.0), rest.1)
 
-module _ (p : Program) (W : IsWellTyped p) (R : HasRoom p) where
+module _ (p : Program) (W : IsWellTyped p) (U : UnionsHaveMembers p) where
   abbrev Some_of : ℕ → Type 0
   Some_of k = (t : Ty) → is_sound p.aggregates t ≡ true → is_complete (take k p.aggregates) t ≡ true → 1 ≤ size_of p.aggregates t
 
@@ -98,7 +98,7 @@ module _ (p : Program) (W : IsWellTyped p) (R : HasRoom p) where
           subst (λ (o : Option (List Ty)). All (λ t. is_complete (take number p.aggregates) t ≡ true) (unwrap_or o [])) m (W.laid_out.ordered number a e) in
           let stored : All (λ t. is_stored p.aggregates t ≡ true) ms =
           subst (λ (o : Option (List Ty)). All (λ t. is_stored p.aggregates t ≡ true) (unwrap_or o [])) m (W.members number a e) in
-          let some = members_some a.is_union ms (λ u n. R.unions number a e u (m ∙ ap Some n))
+          let some = members_some a.is_union ms (λ u n. U number a e u (m ∙ ap Some n))
           (λ t rest is. more number lt t
           (and_parts _ _ (all_at (λ t. is_stored p.aggregates t ≡ true) ms 0 t stored (ap (λ l. slice_get l 0) is))).0
           (all_at (λ t. is_complete (take number p.aggregates) t ≡ true) ms 0 t ordered (ap (λ l. slice_get l 0) is))) in

@@ -2,7 +2,7 @@
 use Rattle.al_typed.specs.declared.ty.Ty.TheBlock.{hidden-the_row-Ty-0, shown-the_row-Ty-0}
 use denote.Hole.Carrier.{out, hidden, shown}
 use Rattle.al_typed.specs.Types.{points_to_complete, points_to_complete_at}
-use Rattle.std.proofs.Common.{◌≡◌, ℕ, true, false, List, [], ◌∷◌, ◌++◌, map, length, Option, Some, None, refl, sym, ap, ◌∙◌, arith, subst, inl, inr, Bool}
+use Rattle.std.proofs.Common.{◌≡◌, ℕ, true, false, List, [], ◌∷◌, ◌++◌, map, length, Option, Some, None, refl, sym, ap, ◌∙◌, arith, subst, inl, inr}
 use Rattle.std.specs.Prelude.{unwrap_or, ◌⊎◌}
 use Rattle.std.specs.List.{AllByRecursion, flat_map}
 use Rattle.std.proofs.lemmas.List.Elements.{recursion_from_All}
@@ -71,7 +71,7 @@ allocates_some p W R t s (inl h) = on (out-Ty t) (sym (roll-out-Ty t)) h
   where
     on : (y : Ty-F Ty) → t ≡ roll-Ty y → points_to_complete_at p.aggregates y ≡ true → AllocatesSome p y
     on (Ty-F.Pointer to) e h =
-        some_bytes p W R to (sym (sound_pointer p.aggregates to) ∙ (sym (ap (is_sound p.aggregates) (e ∙ ty.rolls-Pointer to)) ∙ s)) h
+        some_bytes p W R.unions to (sym (sound_pointer p.aggregates to) ∙ (sym (ap (is_sound p.aggregates) (e ∙ ty.rolls-Pointer to)) ∙ s)) h
     on _ e h = tt
 allocates_some p W R t s (inr h) = subst (λ t. AllocatesSome p (out-Ty t)) (sym h.1.1) tt
 

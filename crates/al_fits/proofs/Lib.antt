@@ -3,7 +3,11 @@ pub mod Members
 pub mod Sound
 pub mod Going
 pub mod Units
+pub mod Within
 pub mod Bytes
+pub mod Blocks
+pub mod Opened
+pub mod Starting
 pub mod Terms
 pub mod Statements
 pub mod Doing

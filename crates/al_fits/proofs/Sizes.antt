@@ -67,12 +67,15 @@ sound_sent rows t capacity h = (and_parts _ _ (and_parts _ _ h).0).0
 -- ---- words
 
 -- a small type has few units, and words
-pub few_words : (p : Program) (t : Ty) → IsSmall p t → words_in p t < 2 ^ 32
+pub at_most_words : (p : Program) (t : Ty) → IsSmall p t → words_in p t ≤ 2 ^ 28
 unfolding words_of
-few_words p t small = on (is_array t)
+at_most_words p t small = on (is_array t)
   where
-    few : length (units_of p.aggregates t) < 2 ^ 32
+    few : length (units_of p.aggregates t) ≤ 2 ^ 28
     few = omega (arith, (layout_fits p.aggregates t).few, small)
-    on : (b : Bool) → (if b then 1 else length (units_of p.aggregates t)) < 2 ^ 32
+    on : (b : Bool) → (if b then 1 else length (units_of p.aggregates t)) ≤ 2 ^ 28
     on true = omega arith
     on false = few
+
+pub few_words : (p : Program) (t : Ty) → IsSmall p t → words_in p t < 2 ^ 32
+few_words p t small = omega (arith, at_most_words p t small)

@@ -1,7 +1,7 @@
 -- Units have 1, 2 or 4 bytes, and values of complete types have a byte at least.
-use Rattle.std.proofs.Common.{◌≡◌, ℕ, zero, suc, ◌+◌, ◌*◌, ◌/◌, ◌<◌, ◌≤◌, max, Bool, true, false, ◌&&◌, List, [], ◌∷◌, ◌++◌, map, length, take, drop, Option, Some, None, refl, ap, sym, ◌∙◌, subst, arith, inl, inr}
-use Rattle.std.specs.Prelude.{⊤, ◌⊎◌, ◌^◌, All, slice_get, unwrap_or, fold, is_some}
-use Rattle.std.specs.List.{AllByRecursion, flat_map, range_with_len, list_all}
+use Rattle.std.proofs.Common.{ℕ, zero, suc, ◌*◌, ◌/◌, max, Bool, true, false, List, [], ◌∷◌, ◌++◌, map, Option, Some, None, refl, arith, inl, inr}
+use Rattle.std.specs.Prelude.{slice_get, unwrap_or, fold}
+use Rattle.std.specs.List.{AllByRecursion, flat_map, range_with_len}
 use Rattle.al_base.specs.declared.arith.Kind.{Kind}
 use Rattle.al_base.specs.declared.arith.Kind.TheVariants.{Byte, Sint, Usint, Int, Uint, Lint, Ulint}
 use Rattle.al_store.specs.Memory.{IsWidth}
@@ -10,7 +10,7 @@ use Rattle.al_typed.specs.declared.program.Aggregate.{Aggregate}
 use Rattle.al_typed.specs.declared.ty.Ty.{Ty, Void, Integer, Pointer', Array', Chan', Tuple', Aggregate as Aggregate_, Function', Row_of-Ty, end_of-Ty, more_of-Ty}
 use Rattle.al_typed.specs.TyFold.{fold_ty, fold_types}
 use Rattle.al_typed.specs.Types.{bytes_of}
-use Rattle.al_typed.specs.Layout.{Layout, Run, Extent, rounded, layout, layout_of, layout_step, layouts_after, aggregate_layout, body_layout, members_layout, nothing, of_bytes, repeated, in_order, over_each_other, followed, widened, piled, begun, moved, unit_at, units_of}
+use Rattle.al_typed.specs.Layout.{Layout, Run, Extent, rounded, layout, layout_of, layout_step, layouts_after, aggregate_layout, body_layout, members_layout, nothing, of_bytes, repeated, in_order, over_each_other, followed, widened, begun, moved, unit_at, units_of}
 use Rattle.al_fits.specs.Controls.{AreUnits}
 use Rattle.al_fits.proofs.Going.{each_append}
 

@@ -388,7 +388,7 @@ step_it (InvokeInstead function count) h W R K x =
     (λ values found. block_it (with_found found h) (Replace function (joined values)) (moves (only (with_found found h) (Replace function (joined values) ∷ []))) K tt
     (goes_on (only (with_found found h) (Replace function (joined values) ∷ [])) (only_is (with_found found h) (Replace function (joined values)) K tt)))
 step_it (Replace function words) h W R K x = K.1
-step_it TakeBlock h W R K x = asks_it h (act.Alloc (block_size h.program (locals_of (function_here h))) FrameBlock) (Answered ∷ []) (block_some h.program W R h.frame.function, omega arith) K (tt, tt)
+step_it TakeBlock h W R K x = asks_it h (act.Alloc (block_size h.program (locals_of (function_here h))) FrameBlock) (Answered ∷ []) (block_some h.program W R.unions h.frame.function, omega arith) K (tt, tt)
 step_it SetBlock h W R K x =
     value_it h (λ ws h. moves (record h { frame = record h.frame { block = slice_index ws 0 } })) K
     (λ ws found. goes_on (record h { frame = record h.frame { block = slice_index ws 0; found = found } }) K)

@@ -1,6 +1,6 @@
 -- What is known of the controls of a well-typed program: each term in them is well typed in the function of its frame, and
 -- each type in them is as small as the work with it needs.
-use Rattle.std.specs.Prelude.{slice_get, Bool, true, ◌≡◌, ℕ, ◌+◌, ◌<◌, ◌≤◌, ◌^◌, List, [], ◌∷◌, length, Option, Some, None, ⊤, ◌⊎◌}
+use Rattle.std.specs.Prelude.{All, slice_get, true, ◌≡◌, ℕ, ◌+◌, ◌<◌, ◌≤◌, ◌^◌, List, [], ◌∷◌, length, Option, Some, None, ⊤, ◌⊎◌}
 use Rattle.std.specs.List.{AllByRecursion}
 use Rattle.al_event.specs.declared.act.Act.{Act}
 use Rattle.al_world.specs.Control.{fitted}
@@ -13,7 +13,7 @@ use Rattle.al_typed.specs.declared.statement.TStmt.{TStmt, Empty, Block', Declar
 use Rattle.al_typed.specs.declared.statement.TStmt as stmt
 use Rattle.al_typed.specs.StatementForms as part
 use Rattle.al_typed.specs.WellTyped.{Scope, Nest, IsValue, IsPlace, IsTarget, IsStatement}
-use Rattle.al_meaning.specs.Places.{block_place, block_sizes, function_at}
+use Rattle.al_meaning.specs.Places.{block_place, block_sizes, function_at, text_place}
 use Rattle.al_meaning.specs.Items.{Found, Work, Eval, Find, Aim, AndThen, OrElse, Part, Read, Look, Fetch, Fetched, Save, Put, Write, Assign, Update, Step, Clear, PassPlace, PassPointer, PassPart, Scanned, Receives, Received, Sends, Allocate, Do, Choose, WhileTest, WhileAgain, DoCondition, DoTest, ForCondition, ForTest, ForNext, ForAgain, Bound, Iterate, NextTurn, Select, AltTalk, AltWent, Item, Frame, Entering, Control}
 use Rattle.al_meaning.specs.Here.{Next, pointee, size_in}
 use Rattle.al_meaning.specs.Evaluate.{leaves_of}
@@ -53,14 +53,29 @@ abbrev mutual
   HaveFewIterators end_of-TStmt = ⊤
   HaveFewIterators (more_of-TStmt a rest) = HasFewIterators a × HaveFewIterators rest
 
--- What the typing rules leave open. The blocks at the start lie below 2^32, as they do where there is a first world in a
--- region of at most 256 MiB; the values of functions' names are words; statements have few iterators; and a union has a member,
--- so that a value of a complete type has a byte.
+-- a union has a member
+abbrev pub UnionsHaveMembers : Program → Type 0
+UnionsHaveMembers p = (k : ℕ) (a : AggregateRow) → slice_get p.aggregates k ≡ Some a → a.is_union ≡ true → a.members ≡ Some [] → ⊥
+
+-- What well-typed programs leave open: the values of functions' names are words, statements have few iterators, and values of
+-- complete types have a byte.
+pub record IsModest (p : Program) : Type 0 where
+  pub functions : length p.functions ≤ 2 ^ 28
+  pub iterators : (number : ℕ) (f : FunctionRow) → function_at p number ≡ Some f → HasFewIterators f.body
+  pub unions : UnionsHaveMembers p
+
+-- what its strings, its globals and their places come to, so that the first world can be made or found to have no room
+pub record OpensModestly (p : Program) : Type 0 where
+  pub strings : All (λ (s : List ℕ). length s + 1 < 2 ^ 32) p.strings
+  pub globals : length p.globals ≤ 2 ^ 32
+  pub places : (number : ℕ) → number < length p.strings → text_place p number + 1 < 2 ^ 64
+
+-- and the blocks at the start lie below 2^32, as they do where there is a first world in a region of at most 256 MiB
 pub record HasRoom (p : Program) : Type 0 where
   pub blocks : (n : ℕ) → n ≤ length (block_sizes p) → block_place p n < 2 ^ 32
   pub functions : length p.functions ≤ 2 ^ 28
   pub iterators : (number : ℕ) (f : FunctionRow) → function_at p number ≡ Some f → HasFewIterators f.body
-  pub unions : (k : ℕ) (a : AggregateRow) → slice_get p.aggregates k ≡ Some a → a.is_union ≡ true → a.members ≡ Some [] → ⊥
+  pub unions : UnionsHaveMembers p
 
 -- ---- work
 

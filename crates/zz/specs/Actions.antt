@@ -20,4 +20,3 @@ AllocationFits p _ = ⊤
 abbrev pub ByteFits : List Found → Type 0
 ByteFits (Words words ∷ found) = slice_index words 0 < 256
 ByteFits _ = ⊤
-

@@ -9,7 +9,6 @@ use Rattle.al_meaning.specs.Weight.{control_weight}
 use Rattle.zz.specs.Fitting as fitting
 use Rattle.zz.specs.Works.{StepFits}
 
-
 -- what the private steps from a control come to: a turn or an action
 unfoldable pub turn_from : Program → Control → List ℕ → Next
 turn_from p c u = to_turn (private_step p) (control_weight p) (control_weight p c) c u

@@ -8,4 +8,3 @@ use Rattle.al_meaning.specs.Places.{path_offset}
 -- a path leads to a member of a type, at an offset that fits
 abbrev pub Leads : Program → Ty → List ℕ → Type 0
 Leads p t path = IsSome (member p.aggregates path t) × (path_offset p t path < 2 ^ 32)
-

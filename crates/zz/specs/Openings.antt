@@ -32,4 +32,3 @@ TextFits text = length text + 1 < 2 ^ 32
 pub record OpeningFits (p : Program) : Type 0 where
   pub globals : All (GlobalFits p) (filter is_shared_global p.globals)
   pub strings : All TextFits p.strings
-

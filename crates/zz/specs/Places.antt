@@ -41,7 +41,6 @@ abbrev pub ChangeFits : Program → Ty → Change → Type 0
 ChangeFits p t (change.Apply op kind) = ⊤
 ChangeFits p t (change.Move back) = IsSmall p (pointee t)
 
-
 -- a local of the function of that number, of that type, into which a value is put
 abbrev pub StoredFits : Program → (function number : ℕ) → Ty → Type 0
 StoredFits p function number t = IsSmall p t × LocalFits p function number
