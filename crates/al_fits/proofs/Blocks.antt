@@ -31,6 +31,7 @@ module _ (f : Span → Bool) where
           → (f (span_of y) || list_any f (spans_of (in_order (λ (c : Live). c.at) x ys))) ≡ true
       rest true e h more = or_left (f (span_of y)) (list_any f (spans_of (in_order (λ (c : Live). c.at) x ys))) e
       rest false e h more = or_right (f (span_of y)) (list_any f (spans_of (in_order (λ (c : Live). c.at) x ys))) (more h)
+
       on : (b : Bool) → (f (span_of y) || list_any f (spans_of (in_order (λ (c : Live). c.at) x ys))) ≡ true
           → list_any f (spans_of (if b then x ∷ y ∷ ys else y ∷ in_order (λ (c : Live). c.at) x ys)) ≡ true
       on true more = or_right (f (span_of x)) (list_any f (spans_of (y ∷ ys))) h
@@ -72,6 +73,7 @@ module _ (region : ℕ) (store : List Live) (end n : ℕ) (F : Filled store end)
         aligned = F.aligned;
         room = and_from _ _ (le-leb (end + n) (region_base + region) le) (ap not (all_clear end n store F.before));
       }
+
       on : (at ≡ end) ⊎ ((at < end) ⊎ (end < at)) → not (list_any (overlaps at n) (spans_of store)) ≡ true → at + n ≤ region_base + region → at ≡ end
       on (inl is) clear inside = is
       on (inr (inl lt)) clear inside =
@@ -100,6 +102,7 @@ module _ (region : ℕ) (store : List Live) (end n : ℕ) (F : Filled store end)
       later : (xs : List Live) → AllByRecursion (λ (b : Live). b.at + length b.bytes ≤ end) xs → AllByRecursion (λ (b : Live). b.at + length b.bytes ≤ behind end n) xs
       later [] h = tt
       later (x ∷ xs) h = (omega (arith, h.0), later xs h.1)
+
       on : (k m : ℕ) → (k < end) ⊎ (end ≤ k) → region_base ≤ k → k < behind end n → k % 8 ≡ 0 → 1 ≤ m → list_any (overlaps k m) (spans_of (with_block b store)) ≡ true
       on k m (inl old) low lt eights one = any_other (overlaps k m) b store (F.covered k m low old eights one)
       on k m (inr new) low lt eights one =
@@ -120,11 +123,14 @@ all_placed region (b ∷ blocks) store end r F le some e (suc n) =
   where
     Goal : Type 0
     Goal = fold behind (behind end (length b)) (take n (map length blocks)) ≤ region_base + region + 7
+
     new : ℕ → Live
     new at = record { at = at; kind = GlobalBlock; bytes = b }
+
     least_of : (at : ℕ) (c : Bool) → (if c then least region (spans_of store) (length b) else None) ≡ Some at → least region (spans_of store) (length b) ≡ Some at
     least_of at true e = e
     least_of at false e = absurd (cc)
+
     on : (o : Option ℕ) → new_place region (spans_of store) (length b) ≡ o → option_and_then (λ at. with_globals region blocks (with_block (new at) store)) o ≡ Some r
         → ((at : ℕ) → Filled (with_block (new at) store) (behind end (length b)) → behind end (length b) ≤ region_base + region + 7
         → with_globals region blocks (with_block (new at) store) ≡ Some r → Goal) → Goal

@@ -103,12 +103,14 @@ module _ (p : Program) (W : IsWellTyped p) (U : UnionsHaveMembers p) where
           (and_parts _ _ (all_at (λ t. is_stored p.aggregates t ≡ true) ms 0 t stored (ap (λ l. slice_get l 0) is))).0
           (all_at (λ t. is_complete (take number p.aggregates) t ≡ true) ms 0 t ordered (ap (λ l. slice_get l 0) is))) in
           omega arith
+
       on : (o : Option Aggregate) → slice_get (take k p.aggregates) number ≡ o → has_body o ≡ true → 1 ≤ size_of p.aggregates (ty.Aggregate number)
       on None e h = absurd (cc)
       on (Some a) e h = let t = taken k number p.aggregates a e in body a t.0 t.1 a.members refl h
 
   mutual
     unfolding layout layout_of is_complete
+
     some_at : (k : ℕ) → ((j : ℕ) → j < k → Some_of j) → Some_of k
     some_at k more Void s h = absurd (cc)
     some_at k more (Integer kind) s h = integer_some kind

@@ -126,9 +126,10 @@ do_it (Value _ (b ∷ bs) value) h W R K x =
     ((x.term.1.1, y), tt))
 do_it (part.label _ _ body) h W R K x = starts_it h body K (narrow x (λ s v. (inside v.0, v.1)))
 do_it (If' _ condition _ (more_of-TStmt chosen end_of-TStmt) other) h W R K x =
-    does_it h (Eval condition ∷ Choose chosen (other_of other) ∷ []) K
-    (narrow x (λ s v. v.1.0.0.0),
-    ((narrow x (λ s v. (inside v.0, (v.1.0.1.0, v.1.1.0))), other_stands h.program h.frame.function other (narrow x (λ s v. (v.0, (v.1.0.1.1, v.1.1.1))))), tt))
+    does_it h (Eval condition ∷ Choose chosen (other_of other) ∷ []) K (
+      narrow x (λ s v. v.1.0.0.0),
+      ((narrow x (λ s v. (inside v.0, (v.1.0.1.0, v.1.1.0))), other_stands h.program h.frame.function other (narrow x (λ s v. (v.0, (v.1.0.1.1, v.1.1.1))))), tt),
+    )
 do_it (part.while_loop line condition body) h W R K x =
     does_it h (Eval condition ∷ WhileTest (part.while_loop line condition body) ∷ []) K (narrow x (λ s v. v.1.0.0.0), (x, tt))
 do_it (part.do_loop line body condition) h W R K x =

@@ -135,9 +135,6 @@ abbrev pub Lies : Program → Ty → Member → Type 0
 Lies p t m = (m.at + size_of p.aggregates m.ty ≤ size_of p.aggregates t) × (is_sound p.aggregates t ≡ true → is_sound p.aggregates m.ty ≡ true)
 
 module _ (p : Program) (W : IsWellTyped p) where
-
-
-
   step_lies : (t u : Ty) (a : Aggregate) (i at : ℕ) → row_of p.aggregates t ≡ Some a → slice_get (members_of (Some a)) i ≡ Some u
       → slice_get (member_offsets p.aggregates (Some a)) i ≡ Some at
       → (at + size_of p.aggregates u ≤ size_of p.aggregates t) × (is_sound p.aggregates u ≡ true)

@@ -116,6 +116,7 @@ began p region h w e over = on (with_globals region (opening_blocks p) []) refl 
   where
     first : Option (List Live) → World (source p)
     first o = record (opening (source p) region (opening_blocks p) (main_start p)) { shared = opening_with region o }
+
     on : (o : Option (List Live)) → with_globals region (opening_blocks p) [] ≡ o → (h : List Entry) → world.run (source p) h (Some (first o)) ≡ Some w → Opens p region
     on (Some r) is h e = (r, is)
     on None is [] e = let same : first None ≡ w = cc in absurd (let end = ap (λ (w : World (source p)). w.shared.over) same ∙ over in cc)

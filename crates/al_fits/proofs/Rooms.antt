@@ -74,7 +74,6 @@ no_block : (p : Program) → block_size p [] ≤ 1
 unfolding in_order
 no_block p = omega arith
 
-
 -- a function that begins has small locals
 pub begin_fits : (p : Program) → IsWellTyped p → (n : ℕ) → BeginFits p n
 begin_fits p W n = on (function_at p n) refl
@@ -121,6 +120,7 @@ module _ (p : Program) (W : IsWellTyped p) (R : HasRoom p) where
       row : (f : FunctionRow) → function_at p n ≡ Some f → (o : Option LocalRow) → slice_get f.locals number ≡ o → RowFits p n number o
       row f e (Some l) is = (sound_small p l.ty (local_sound p W n f number l e is), local_fits n number)
       row f e None is = tt
+
       on : (o : Option FunctionRow) → function_at p n ≡ o → RowFits p n number (slice_get (locals_of o) number)
       on None e = tt
       on (Some f) e = row f e (slice_get f.locals number) refl

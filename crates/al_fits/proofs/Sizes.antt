@@ -73,6 +73,7 @@ at_most_words p t small = on (is_array t)
   where
     few : length (units_of p.aggregates t) ≤ 2 ^ 28
     few = omega (arith, (layout_fits p.aggregates t).few, small)
+
     on : (b : Bool) → (if b then 1 else length (units_of p.aggregates t)) ≤ 2 ^ 28
     on true = omega arith
     on false = few

@@ -94,6 +94,7 @@ module _ (p : Program) (W : IsWellTyped p) where
   module _ (k : ℕ) (f : FunctionRow) (i : ℕ) (q : function_at p k ≡ Some f) where
     mutual
       unfolding IsValue IsPlace
+
       pub value_sound : (e : TExpr) → IsValue (scope p f i) e → is_sound p.aggregates (type_of e) ≡ true
       value_sound (Constant t bits) h = same t (ty.Integer h.0) h.1.0 refl
       value_sound (Text t number) h = pointer_is t _ h.0 refl

@@ -74,6 +74,7 @@ module _ (p : Program) (W : IsWellTyped p) (U : UnionsHaveMembers p) (M : OpensM
     where
       few : words_in p g.ty ≤ 2 ^ 28
       few = at_most_words p g.ty (sound_small p g.ty (and_parts (is_sound p.aggregates g.ty) _ h.stored).0)
+
       on : (b : Bool) → (if b then words_in p g.ty else 0) ≤ 2 ^ 28
       on true = few
       on false = omega arith

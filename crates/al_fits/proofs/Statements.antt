@@ -60,6 +60,7 @@ found_items p n None f = tt
 
 mutual
   unfolding IsStatement AreStatements IsOther
+
   pub going : (p : Program) (n k : ℕ) (s : TStmt) (rest : List Item) → In p n (Stands s) → AllByRecursion (ItemIs p n) rest → FoundIs p n (going_on k s rest)
   going p n k (Block' _ _ body) rest x r = going_in p n k body rest (narrow x (λ s v. (inside v.0, v.1))) r
   going p n k (part.label line number body) rest x r =
@@ -177,9 +178,10 @@ BranchIs p n b = In p n (λ s. Communicates s b.communication) × AllByRecursion
 row_branches : (p : Program) (n : ℕ) {m : _} (row : Row_of-TStmt m) → In p n (BodyStands row) → AllByRecursion (BranchIs p n) (branchings row)
 unfolding AreStatements IsStatement
 row_branches p n end_of-TStmt x = tt
-row_branches p n (more_of-TStmt (AltCase c) rest) x =
-    ((narrow x (λ s v. communicates v.0.labels s c v.1.0.0), body_items p n rest (narrow x (λ s v. (v.0, (v.1.0.1, v.1.1.1))))),
-    row_branches p n rest (narrow x (λ s v. (v.0, (v.1.0.1, v.1.1.1)))))
+row_branches p n (more_of-TStmt (AltCase c) rest) x = (
+  (narrow x (λ s v. communicates v.0.labels s c v.1.0.0), body_items p n rest (narrow x (λ s v. (v.0, (v.1.0.1, v.1.1.1))))),
+  row_branches p n rest (narrow x (λ s v. (v.0, (v.1.0.1, v.1.1.1)))),
+)
 row_branches p n (more_of-TStmt s rest) x = row_branches p n rest (narrow x (λ s v. (v.0, (v.1.0.1, v.1.1.1))))
 
 pub alt_branches_are : (p : Program) (n : ℕ) (s : TStmt) → In p n (Stands s) → AllByRecursion (BranchIs p n) (cases_of s)

@@ -126,6 +126,7 @@ aim_it (Parts' t _ parts) h K x = does_it h (map Aim (targets parts)) K (aimed_r
 module _ (p : Program) (W : IsWellTyped p) (n : ℕ) where
   mutual
     unfolding IsTarget AreTargets
+
     pub leaves_small : (target : TTarget) → In p n (λ s. IsTarget s target) → AllByRecursion (IsSmall p) (leaves_of target)
     leaves_small (form.into place) x = (place_small p W n x.function x.iterators x.is place x.term, tt)
     leaves_small (Dropped t) x = (sound_small p t (and_parts _ _ x.term.0).0, tt)
@@ -252,9 +253,10 @@ eval_it (form.send t chan value) h W K x =
 eval_it (form.can_receive t chan) h W K x = does_it h (Eval chan ∷ CanReceives ∷ []) K (narrow x (λ s v. v.1.0), (tt, tt))
 eval_it (form.can_send t chan) h W K x = does_it h (Eval chan ∷ CanSends ∷ []) K (narrow x (λ s v. v.1.0), (tt, tt))
 eval_it (form.member_of t value path) h W K x =
-    does_it h (Eval value ∷ Part (type_of value) path ∷ []) K
-    (narrow x (λ s v. v.0),
-    (part_fits h.program W path (type_of value) t x.term.1.0 (sound_value h.program W h.frame.function value (narrow x (λ s v. v.0))), tt))
+    does_it h (Eval value ∷ Part (type_of value) path ∷ []) K (
+      narrow x (λ s v. v.0),
+      (part_fits h.program W path (type_of value) t x.term.1.0 (sound_value h.program W h.frame.function value (narrow x (λ s v. v.0))), tt),
+    )
 eval_it (form.cast t of) h W K x = does_it h (Eval of ∷ Convert (type_of of) t ∷ []) K (narrow x (λ s v. v.1.0), (tt, tt))
 eval_it (form.convert t of) h W K x = does_it h (Eval of ∷ Convert (type_of of) t ∷ []) K (narrow x (λ s v. v.1.0), (tt, tt))
 eval_it (Sequence' t _ first _ (more_of-TExpr last end_of-TExpr)) h W K x =

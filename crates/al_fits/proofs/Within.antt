@@ -100,6 +100,7 @@ known_lie (l ∷ ls) (suc k) h = known_lie ls k h.1
 
 mutual
   unfolding layout_of
+
   fold_lie : (known : List Layout) (t : Ty) → AllFit known → AllByRecursion Lie known → Lie (fold_ty (layout_step known) t)
   fold_lie known Void f h = tt
   fold_lie known (Integer kind) f h = integer_lie kind

@@ -134,13 +134,15 @@ begun_is p W R number words = on (function_at p number) refl
     on (Some f) e =
         items_are p number f.line (block_work f.locals ++ parameter_work p 0 f.parameters f.locals words) (to_do f.body ∷ [])
         (each_append (WorkIs p number) (block_work f.locals) (parameter_work p 0 f.parameters f.locals words) (block_works p number f.locals)
-        (parameter_works p number 0 f.parameters f.locals words))
-        (record {
-          function = f;
-          iterators = 0;
-          is = e;
-          term = (record { number = number; breaks = 0; loops = 0; labels = no_labels }, ((W.functions number f e).body, R.iterators number f e));
-        }, tt)
+        (parameter_works p number 0 f.parameters f.locals words)) (
+          record {
+            function = f;
+            iterators = 0;
+            is = e;
+            term = (record { number = number; breaks = 0; loops = 0; labels = no_labels }, ((W.functions number f e).body, R.iterators number f e));
+          },
+          tt,
+        )
 
 pub enters_it : (p : Program) → IsWellTyped p → HasRoom p → (number : ℕ) (words : List ℕ) (c : Control) (frames : List Frame) (privates : List ℕ)
     → AllByRecursion (FrameIs p) c.frames → AllByRecursion (FrameIs p) frames → NextIs p (enters p number words c frames privates)
