@@ -65,7 +65,7 @@ kept_fewer f (suc n) (x ∷ xs) = on (f x) (kept_fewer f n xs)
     on true le = omega (arith, le)
     on false le = le
 
-block_count : (p : Program) → length (block_sizes p) ≡ length (filter is_shared_global p.globals) + length p.strings
+pub block_count : (p : Program) → length (block_sizes p) ≡ length (filter is_shared_global p.globals) + length p.strings
 block_count p =
     length-append (map (λ (g : GlobalRow). size_of p.aggregates g.ty) (filter is_shared_global p.globals)) (map (λ s. length s + 1) p.strings)
     ∙ ap₂ (λ m n. m + n) (length-map (filter is_shared_global p.globals) (λ (g : GlobalRow). size_of p.aggregates g.ty)) (length-map p.strings (λ s. length s + 1))

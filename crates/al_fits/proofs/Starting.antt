@@ -1,6 +1,6 @@
 -- The first world of a well-typed program has numbers that fit.
-use Rattle.std.proofs.Common.{◌≡◌, ℕ, suc, ◌+◌, ◌*◌, ◌<◌, ◌≤◌, Bool, true, false, if◌then◌else◌, List, [], ◌∷◌, length, Some, refl, sym, ◌∙◌, subst, arith, inl, inr}
-use Rattle.std.specs.Prelude.{◌^◌, ◌⊎◌, filter, fold, slice_get, sum_by}
+use Rattle.std.proofs.Common.{◌≡◌, ℕ, suc, ◌+◌, ◌*◌, ◌<◌, ◌≤◌, Bool, true, false, if◌then◌else◌, List, [], ◌∷◌, length, refl, sym, ◌∙◌, subst, arith, inl, inr, take, map, zero}
+use Rattle.std.specs.Prelude.{◌^◌, ◌⊎◌, filter, fold, sum_by}
 use Rattle.std.specs.List.{AllByRecursion}
 use Rattle.std.proofs.lemmas.Bool.{and_parts}
 use Rattle.std.proofs.lemmas.List.Elements.{All-contains, All-filter, All-from_recursion, All-weaker, recursion_from_All}
@@ -9,7 +9,6 @@ use Rattle.al_typed.specs.declared.ty.Ty.TheVariants as ty
 use Rattle.al_store.specs.Memory.{IsWidth}
 use Rattle.al_typed.specs.declared.layout.Unit.{Unit}
 use Rattle.al_typed.specs.declared.ty.Ty.{Ty}
-use Rattle.al_typed.specs.declared.program.Function.{Function}
 use Rattle.al_typed.specs.declared.program.Global.{Global}
 use Rattle.al_typed.specs.declared.program.StartValue.{StartValue}
 use Rattle.al_typed.specs.declared.program.StartWord.{StartWord}
@@ -19,10 +18,16 @@ use Rattle.al_typed.specs.Layout.{size_of, units_of}
 use Rattle.al_typed.specs.Types.{byte_pointer, int}
 use Rattle.al_typed.specs.Typed.{parameter_types}
 use Rattle.al_typed.specs.WellTyped.{FitsIn, IsGlobal, IsWellTyped, Starts, is_sound}
-use Rattle.al_meaning.specs.Places.{is_shared_global, private_words_of, words_in}
+use Rattle.al_meaning.specs.Places.{behind, block_sizes, shared_before, is_shared_global, private_words_of, words_in, text_place}
+use Rattle.al_typed.specs.Types.{is_complete}
+use Rattle.al_event.specs.Store.{region_base}
+use Rattle.std.proofs.lemmas.Grind.{div_ceil_times}
+use Rattle.al_fits.proofs.Going.{each_append}
+use Rattle.al_fits.proofs.Rooms.{begin_fits, block_count}
 use Rattle.al_opening.specs.Opening.{GlobalFits, OpeningFits, StartFits, WordFits}
 use Rattle.al_fits.specs.Controls.{OpensModestly, UnionsHaveMembers}
-use Rattle.al_fits.specs.Laws as laws
+use Rattle.al_step.specs.Sources.{MainFits, words_of_parameters}
+use Rattle.al_step.specs.Sources as sources
 use Rattle.al_fits.proofs.Sizes.{at_most_words, sound_small, sound_pointer}
 use Rattle.al_fits.proofs.Units.{units_are}
 use Rattle.al_fits.proofs.Bytes.{some_bytes}
@@ -33,10 +38,55 @@ few_bytes n (inl e) = omega (arith, e)
 few_bytes n (inr (inl e)) = omega (arith, e)
 few_bytes n (inr (inr e)) = omega (arith, e)
 
+-- ---- places of strings
+
+next_place : (at size : ℕ) → behind at size ≤ at + size + 7
+next_place at size = let above = (div_ceil_times size 8 (omega arith)).1 in omega arith
+
+places_low : (sizes : List ℕ) (at n : ℕ) → AllByRecursion (λ (s : ℕ). s ≤ 2 ^ 32) sizes → fold behind at (take n sizes) ≤ at + length sizes * (2 ^ 32 + 7)
+places_low [] at zero h = omega arith
+places_low [] at (suc n) h = omega arith
+places_low (s ∷ sizes) at zero h = omega arith
+places_low (s ∷ sizes) at (suc n) h =
+    one_more at s (length sizes) (behind at s) (fold behind (behind at s) (take n sizes)) h.0 (next_place at s) (places_low sizes (behind at s) n h.1)
+  where
+    one_more : (at s len next end : ℕ) → s ≤ 2 ^ 32 → next ≤ at + s + 7 → end ≤ next + len * (2 ^ 32 + 7) → end ≤ at + suc len * (2 ^ 32 + 7)
+    one_more at s len next end a b c = omega arith
+
+fewer_kept : {A : Type 0} (f : A → Bool) (xs : List A) → length (filter f xs) ≤ length xs
+fewer_kept f [] = omega arith
+fewer_kept f (x ∷ xs) = on (f x) (fewer_kept f xs)
+  where
+    on : (b : Bool) → length (filter f xs) ≤ length xs → length (if b then x ∷ filter f xs else filter f xs) ≤ suc (length xs)
+    on true le = omega arith
+    on false le = omega arith
+
+global_sizes_low : (p : Program) (gs : List Global) → AllByRecursion (IsGlobal p) gs → AllByRecursion (λ (s : ℕ). s ≤ 2 ^ 32) (map (λ (g : Global). size_of p.aggregates g.ty) gs)
+global_sizes_low p [] h = tt
+global_sizes_low p (g ∷ gs) h =
+    (omega (arith, sound_small p g.ty (and_parts (is_sound p.aggregates g.ty) (is_complete p.aggregates g.ty) h.0.stored).0), global_sizes_low p gs h.1)
+
+text_sizes_low : (texts : List (List ℕ)) → AllByRecursion (λ (s : List ℕ). length s + 1 < 2 ^ 32) texts → AllByRecursion (λ (s : ℕ). s ≤ 2 ^ 32) (map (λ s. length s + 1) texts)
+text_sizes_low [] h = tt
+text_sizes_low (s ∷ texts) h = (omega (arith, h.0), text_sizes_low texts h.1)
+
 module _ (p : Program) (W : IsWellTyped p) (U : UnionsHaveMembers p) (M : OpensModestly p) where
+  text_low : (number : ℕ) → text_place p number + 1 < 2 ^ 64
+  text_low number =
+      let gs : List Global = filter is_shared_global p.globals in
+      let sizes = each_append (λ (s : ℕ). s ≤ 2 ^ 32) (map (λ (g : Global). size_of p.aggregates g.ty) gs) (map (λ s. length s + 1) p.strings)
+      (global_sizes_low p gs (recursion_from_All (IsGlobal p) gs (All-filter is_shared_global (IsGlobal p) p.globals W.globals)))
+      (text_sizes_low p.strings (recursion_from_All (λ (s : List ℕ). length s + 1 < 2 ^ 32) p.strings M.strings)) in
+      bounded (length (block_sizes p)) (text_place p number)
+      (omega (arith, block_count p, fewer_kept is_shared_global p.globals, M.globals, M.texts))
+      (places_low (block_sizes p) region_base (shared_before p (length p.globals) + number) sizes)
+    where
+      bounded : (count place : ℕ) → count ≤ 2 ^ 29 → place ≤ region_base + count * (2 ^ 32 + 7) → place + 1 < 2 ^ 64
+      bounded count place few low = omega arith
+
   word_fits : (size : ℕ) (word : StartWord) → FitsIn p size word → WordFits p word
   word_fits size (start.Number n) h = tt
-  word_fits size (start.Text number) h = M.places number h.1
+  word_fits size (start.Text number) h = text_low number
 
   value_fits : (g : Global) (v : StartValue) → Starts p g v → StartFits p (size_of p.aggregates g.ty) v
   value_fits g v s =
@@ -101,17 +151,14 @@ module _ (p : Program) (W : IsWellTyped p) (U : UnionsHaveMembers p) (M : OpensM
       both : (m n : ℕ) → m ≤ 2 ^ 28 → n ≤ 2 ^ 28 → 0 + m + n + 1 < 2 ^ 64
       both m n a b = omega arith
 
-  main_words : (f : Function) → slice_get p.functions p.main ≡ Some f → sum_by (words_in p) (parameter_types f) + 1 < 2 ^ 64
-  main_words f e =
-      let same : W.main_function ≡ f = some_is (sym W.main.is_there.0 ∙ e) in
-      subst (λ f. sum_by (words_in p) (parameter_types f) + 1 < 2 ^ 64) same (two_words (parameter_types W.main_function) W.main.parameters)
-    where
-      some_is : {A : Type 0} {a b : A} → Some a ≡ Some b → a ≡ b
-      some_is h = cc
+  main_words : MainFits p
+  main_words =
+      subst (λ o. words_of_parameters p o + 1 < 2 ^ 64) (sym W.main.is_there.0) (two_words (parameter_types W.main_function) W.main.parameters)
 
-  pub starts_fit : laws.Starts p
+  pub starts_fit : sources.StartFits p
   starts_fit = record {
     opening = opening_fits;
     privates = omega (arith, sum_words p.globals (recursion_from_All (IsGlobal p) p.globals W.globals), M.globals);
     parameters = main_words;
+    main = begin_fits p W p.main;
   }

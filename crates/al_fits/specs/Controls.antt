@@ -13,7 +13,7 @@ use Rattle.al_typed.specs.declared.statement.TStmt.{TStmt, Empty, Block', Declar
 use Rattle.al_typed.specs.declared.statement.TStmt as stmt
 use Rattle.al_typed.specs.StatementForms as part
 use Rattle.al_typed.specs.WellTyped.{Scope, Nest, IsValue, IsPlace, IsTarget, IsStatement}
-use Rattle.al_meaning.specs.Places.{block_place, block_sizes, function_at, text_place}
+use Rattle.al_meaning.specs.Places.{block_place, block_sizes, function_at}
 use Rattle.al_meaning.specs.Items.{Found, Work, Eval, Find, Aim, AndThen, OrElse, Part, Read, Look, Fetch, Fetched, Save, Put, Write, Assign, Update, Step, Clear, PassPlace, PassPointer, PassPart, Scanned, Receives, Received, Sends, Allocate, Do, Choose, WhileTest, WhileAgain, DoCondition, DoTest, ForCondition, ForTest, ForNext, ForAgain, Bound, Iterate, NextTurn, Select, AltTalk, AltWent, Item, Frame, Entering, Control}
 use Rattle.al_meaning.specs.Here.{Next, pointee, size_in}
 use Rattle.al_meaning.specs.Evaluate.{leaves_of}
@@ -64,11 +64,12 @@ pub record IsModest (p : Program) : Type 0 where
   pub iterators : (number : ℕ) (f : FunctionRow) → function_at p number ≡ Some f → HasFewIterators f.body
   pub unions : UnionsHaveMembers p
 
--- what its strings, its globals and their places come to, so that the first world can be made or found to have no room
+-- how many globals and strings there are, and how long these are, so that the first world can be made, or found to have no
+-- room
 pub record OpensModestly (p : Program) : Type 0 where
+  pub globals : length p.globals ≤ 2 ^ 28
+  pub texts : length p.strings ≤ 2 ^ 28
   pub strings : All (λ (s : List ℕ). length s + 1 < 2 ^ 32) p.strings
-  pub globals : length p.globals ≤ 2 ^ 32
-  pub places : (number : ℕ) → number < length p.strings → text_place p number + 1 < 2 ^ 64
 
 -- and the blocks at the start lie below 2^32, as they do where there is a first world in a region of at most 256 MiB
 pub record HasRoom (p : Program) : Type 0 where

@@ -4,4 +4,4 @@
 
 mod laws;
 
-pub use laws::private_steps_fit;
+pub use laws::numbers_fit;

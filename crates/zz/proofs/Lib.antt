@@ -15,3 +15,4 @@ pub mod Working
 pub mod Keeping
 pub mod Rooms
 pub mod Runs
+pub mod Entries

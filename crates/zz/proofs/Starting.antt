@@ -1,6 +1,6 @@
 -- The first world of a well-typed program has numbers that fit.
-use Rattle.std.proofs.Common.{◌≡◌, ℕ, suc, ◌+◌, ◌*◌, ◌<◌, ◌≤◌, Bool, true, false, if◌then◌else◌, List, [], ◌∷◌, length, Some, refl, sym, ◌∙◌, subst, arith, inl, inr, take, map, zero}
-use Rattle.std.specs.Prelude.{◌^◌, ◌⊎◌, filter, fold, slice_get, sum_by}
+use Rattle.std.proofs.Common.{◌≡◌, ℕ, suc, ◌+◌, ◌*◌, ◌<◌, ◌≤◌, Bool, true, false, if◌then◌else◌, List, [], ◌∷◌, length, refl, sym, ◌∙◌, subst, arith, inl, inr, take, map, zero}
+use Rattle.std.specs.Prelude.{◌^◌, ◌⊎◌, filter, fold, sum_by}
 use Rattle.std.specs.List.{AllByRecursion}
 use Rattle.std.proofs.lemmas.Bool.{and_parts}
 use Rattle.std.proofs.lemmas.List.Elements.{All-contains, All-filter, All-from_recursion, All-weaker, recursion_from_All}
@@ -9,7 +9,6 @@ use Rattle.al_typed.specs.declared.ty.Ty.TheVariants as ty
 use Rattle.al_store.specs.Memory.{IsWidth}
 use Rattle.al_typed.specs.declared.layout.Unit.{Unit}
 use Rattle.al_typed.specs.declared.ty.Ty.{Ty}
-use Rattle.al_typed.specs.declared.program.Function.{Function}
 use Rattle.al_typed.specs.declared.program.Global.{Global}
 use Rattle.al_typed.specs.declared.program.StartValue.{StartValue}
 use Rattle.al_typed.specs.declared.program.StartWord.{StartWord}
@@ -24,10 +23,11 @@ use Rattle.al_typed.specs.Types.{is_complete}
 use Rattle.al_event.specs.Store.{region_base}
 use Rattle.std.proofs.lemmas.Grind.{div_ceil_times}
 use Rattle.zz.proofs.Going.{each_append}
-use Rattle.zz.proofs.Rooms.{block_count}
+use Rattle.zz.proofs.Rooms.{begin_fits, block_count}
 use Rattle.zz.specs.Openings.{GlobalFits, OpeningFits, StartFits, WordFits}
 use Rattle.zz.specs.Controls.{OpensModestly, UnionsHaveMembers}
-use Rattle.zz.specs.Laws as laws
+use Rattle.zz.specs.Sources.{MainFits, words_of_parameters}
+use Rattle.zz.specs.Sources as sources
 use Rattle.zz.proofs.Sizes.{at_most_words, sound_small, sound_pointer}
 use Rattle.zz.proofs.Units.{units_are}
 use Rattle.zz.proofs.Bytes.{some_bytes}
@@ -151,17 +151,14 @@ module _ (p : Program) (W : IsWellTyped p) (U : UnionsHaveMembers p) (M : OpensM
       both : (m n : ℕ) → m ≤ 2 ^ 28 → n ≤ 2 ^ 28 → 0 + m + n + 1 < 2 ^ 64
       both m n a b = omega arith
 
-  main_words : (f : Function) → slice_get p.functions p.main ≡ Some f → sum_by (words_in p) (parameter_types f) + 1 < 2 ^ 64
-  main_words f e =
-      let same : W.main_function ≡ f = some_is (sym W.main.is_there.0 ∙ e) in
-      subst (λ f. sum_by (words_in p) (parameter_types f) + 1 < 2 ^ 64) same (two_words (parameter_types W.main_function) W.main.parameters)
-    where
-      some_is : {A : Type 0} {a b : A} → Some a ≡ Some b → a ≡ b
-      some_is h = cc
+  main_words : MainFits p
+  main_words =
+      subst (λ o. words_of_parameters p o + 1 < 2 ^ 64) (sym W.main.is_there.0) (two_words (parameter_types W.main_function) W.main.parameters)
 
-  pub starts_fit : laws.Starts p
+  pub starts_fit : sources.StartFits p
   starts_fit = record {
     opening = opening_fits;
     privates = omega (arith, sum_words p.globals (recursion_from_All (IsGlobal p) p.globals W.globals), M.globals);
     parameters = main_words;
+    main = begin_fits p W p.main;
   }

@@ -11,4 +11,5 @@ pub mod Asks
 pub mod Openings
 pub mod Fitting
 pub mod Controls
+pub mod Sources
 pub mod Laws
