@@ -1,15 +1,14 @@
 -- Numbers that are capped, and layouts that are kept by such numbers.
-use Rattle.std.proofs.Common.{◌≡◌, ℕ, ◌+◌, ◌*◌, ◌-◌, ◌/◌, ◌%◌, ◌^◌, ◌<◌, ◌≤◌, max, min, List, [], ◌∷◌, ◌++◌, map, length, length-append, arith, refl, ap, sym, ◌∙◌, inl, inr, subst, zero, suc, mul_comm}
+use Rattle.std.proofs.Common.{◌≡◌, ℕ, ◌+◌, ◌*◌, ◌^◌, ◌≤◌, max, List, [], ◌∷◌, length, length-append, arith, ap, sym, ◌∙◌, inl, inr, subst, zero, suc, mul_comm}
 use Rattle.std.proofs.lemmas.Bool.{cases_lt}
 use Rattle.std.proofs.lemmas.Grind.{div_ceil_times}
 use Rattle.std.proofs.lemmas.List.{length-map}
 use Rattle.std.proofs.Math.Nat.{le-mul_of_pos_right}
-use Rattle.std.specs.Int.{div_ceil}
 use Rattle.al_typed.specs.Capped.{capped}
 use Rattle.al_typed.specs.declared.layout.Unit.{Unit}
 use Rattle.al_typed.specs.declared.layout.Room.{Room}
 use Rattle.al_typed.specs.declared.layout.PlacedSoFar.{PlacedSoFar}
-use Rattle.al_typed.specs.Layout.{Layout, Run, Measured, RunsTo, rounded, followed, repeated, moved, unit_at}
+use Rattle.al_typed.specs.Layout.{Layout, Run, Measured, RunsTo, rounded, followed, repeated, moved}
 use Rattle.std.specs.List.{flat_map, range_with_len}
 use Rattle.std.proofs.lemmas.List.FromFn.{length-range_with_len}
 

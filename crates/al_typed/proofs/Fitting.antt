@@ -1,5 +1,5 @@
 -- What holds of every layout: its alignment is 1 to 4, and it has no more units than bytes.
-use Rattle.std.proofs.Common.{◌≡◌, ℕ, ◌+◌, ◌*◌, ◌/◌, ◌<◌, ◌≤◌, max, zero, suc, List, [], ◌∷◌, ◌++◌, map, take, length, length-append, Option, Some, None, arith, refl, ap, sym, ◌∙◌, subst}
+use Rattle.std.proofs.Common.{◌≡◌, ℕ, ◌+◌, ◌*◌, ◌/◌, ◌≤◌, zero, suc, List, [], ◌∷◌, ◌++◌, map, length, length-append, Option, Some, None, arith, sym, subst}
 use Rattle.std.specs.Prelude.{slice_get, unwrap_or, fold, Bool, true, false, ⊤}
 use Rattle.std.proofs.Math.Nat.{mul-le-mul_left}
 use Rattle.std.proofs.lemmas.List.FromFn.{length-map-range_with_len}

@@ -1,5 +1,5 @@
 -- The layout of each kind of type.
-use Rattle.std.proofs.Common.{◌≡◌, ℕ, ◌+◌, ◌<◌, ◌≤◌, suc, List, get_or, drop, subst, length-take, inl, inr, [], ◌∷◌, ◌++◌, map, take, length, length-append, Option, Some, None, arith, refl, ap, sym, ◌∙◌, append_assoc}
+use Rattle.std.proofs.Common.{◌≡◌, ℕ, ◌<◌, ◌≤◌, suc, List, get_or, drop, subst, length-take, inl, inr, [], ◌∷◌, ◌++◌, map, take, length, length-append, Option, Some, None, arith, refl, ap, sym, ◌∙◌, append_assoc}
 use Rattle.al_base.specs.declared.arith.Kind.{Kind}
 use Rattle.std.specs.Prelude.{slice_get, unwrap_or, fold, Bool, true, false, ◌^◌}
 use Rattle.std.proofs.lemmas.List.{append-nil, take-append-drop}

@@ -1,6 +1,6 @@
 -- Units of values that stand further on, one value behind another.
-use Rattle.std.proofs.Common.{◌≡◌, ℕ, ◌+◌, ◌*◌, ◌/◌, ◌^◌, ◌<◌, ◌≤◌, max, zero, suc, List, [], ◌∷◌, ◌++◌, map, take, drop, length, Option, Some, None, arith, refl, ap, sym, ◌∙◌, subst, append_assoc, get_or}
-use Rattle.std.specs.Prelude.{slice_get, unwrap_or, fold, Bool, true, false}
+use Rattle.std.proofs.Common.{◌≡◌, ℕ, ◌+◌, ◌*◌, ◌/◌, ◌^◌, ◌<◌, ◌≤◌, zero, suc, List, [], ◌∷◌, ◌++◌, map, take, length, Some, None, arith, refl, ap, sym, ◌∙◌, subst, append_assoc, get_or}
+use Rattle.std.specs.Prelude.{slice_get, fold, true, false}
 use Rattle.std.specs.List.{flat_map, range_with_len}
 use Rattle.std.proofs.Math.Nat.{mul-le-mul_left}
 use Rattle.std.proofs.lemmas.List.{append-nil, map-append, take_all, length-map, get_or-map}

@@ -1,5 +1,5 @@
 -- Rows of the list of aggregates: fewer of them, and one more.
-use Rattle.std.proofs.Common.{◌≡◌, ℕ, ◌+◌, ◌<◌, ◌≤◌, suc, List, [], ◌∷◌, ◌++◌, map, take, length, length-append, length-take, Option, Some, None, arith, refl, ap, sym, ◌∙◌, subst, inl, inr, get_or}
+use Rattle.std.proofs.Common.{◌≡◌, ℕ, ◌<◌, List, [], ◌∷◌, ◌++◌, take, length, length-append, length-take, Option, Some, arith, ap, sym, ◌∙◌, subst, inl, inr, get_or}
 use Rattle.std.specs.Prelude.{slice_get, unwrap_or, Bool, true, All}
 use Rattle.std.specs.List.{list_all}
 use Rattle.std.proofs.lemmas.List.Sums.{AllPass-from_list_all}
@@ -10,7 +10,7 @@ use Rattle.std.proofs.Math.Seq.{get_or-append_seam}
 use Rattle.al_typed.specs.declared.program.Aggregate.{Aggregate}
 use Rattle.al_typed.specs.declared.ty.Ty.{Ty}
 use Rattle.al_typed.specs.Types.{is_complete}
-use Rattle.al_typed.specs.Layout.{Layout, Keeps, IsLaidOut, layouts_after, aggregate_layout, members_of}
+use Rattle.al_typed.specs.Layout.{Keeps, IsLaidOut, layouts_after, aggregate_layout, members_of}
 
 slice_get-take : {A : Type 0} (xs : List A) (j k : ℕ) (x : A) → slice_get (take k xs) j ≡ Some x → (j < k) × (slice_get xs j ≡ Some x)
 slice_get-take xs j k x e =

@@ -1,9 +1,8 @@
 -- What the rules ask of each kind of statement.
-use Rattle.std.proofs.Common.{◌≡◌, ℕ, ◌+◌, ◌<◌, ◌≤◌, List, [], ◌∷◌, ◌++◌, map, length, Bool, true, false, Option, Some, None, refl, ap, sym, ◌∙◌}
+use Rattle.std.proofs.Common.{◌≡◌, ℕ, ◌+◌, ◌≤◌, List, [], ◌∷◌, length, Option, Some, None, refl, ap, ◌∙◌}
 use Rattle.std.proofs.Math.Path.{fun_ext}
-use Rattle.std.specs.Prelude.{All, Contains, slice_get, ⊤}
+use Rattle.std.specs.Prelude.{All, ⊤}
 use Rattle.al_base.specs.declared.arith.Kind.{Kind}
-use Rattle.al_typed.specs.declared.ty.Ty.{Ty}
 use Rattle.al_typed.specs.declared.ty.Ty.TheVariants as ty
 use Rattle.al_typed.specs.declared.expression.TExpr.{TExpr}
 use Rattle.al_typed.specs.declared.expression.TPlace.{TPlace}
@@ -16,7 +15,7 @@ use Rattle.al_typed.specs.declared.statement.TStmt.TheVariants as stmt
 use denote.Hole.Carrier.{hidden}
 use Rattle.al_typed.specs.Types.{promoted}
 use Rattle.al_typed.specs.Typed.{type_of}
-use Rattle.al_typed.specs.WellTyped.{Allocates, AreBounds, AreStatements, GivesBack, IsAltCase, IsBranch, IsCall, IsCase, IsCondition, IsDefault, IsInitializer, IsOptionalCondition, IsOptionalValue, IsOther, IsStatement, IsValue, Nest, Returns, Scope, alt_cases, alt_labels, in_cases, in_loop, inside, labels_in, rescues_in, switch_labels}
+use Rattle.al_typed.specs.WellTyped.{Allocates, AreBounds, AreBranches, AreRound, AreStatements, GivesBack, IsAltCase, IsCall, IsCase, IsCondition, IsDefault, IsInitializer, IsLabel, IsOptionalCondition, IsOptionalValue, IsOther, IsRescue, IsReturned, IsStatement, IsValue, Nest, Returns, Scope, alt_cases, alt_labels, in_cases, in_loop, inside, switch_labels}
 
 abbrev pub EachStatement : Scope → Nest → List TStmt → Type 0
 EachStatement s n [] = ⊤
@@ -138,7 +137,7 @@ IsStatement-AltCase s n x = refl
 
 pub IsStatement-Par : (s : Scope) (n : Nest) (line : ℕ) (xs : List ℕ) →
     IsStatement s n (stmt.Par line xs)
-    ≡ ((1 ≤ length xs) × ((length xs ≤ 64) × All (IsBranch s n.number) xs))
+    ≡ (AreBranches s.names n.number xs)
 unfolding IsStatement hidden-the_row-TStmt-1 hidden
 IsStatement-Par s n line xs = refl
 
@@ -150,13 +149,13 @@ IsStatement-Rescue s n line number b = refl
 
 pub IsStatement-Raise : (s : Scope) (n : Nest) (line : ℕ) (to : ℕ) →
     IsStatement s n (stmt.Raise line to)
-    ≡ (Contains (rescues_in s.function.body) to)
+    ≡ (IsRescue s.names to)
 unfolding IsStatement hidden-the_row-TStmt-1 hidden
 IsStatement-Raise s n line to = refl
 
 pub IsStatement-Goto : (s : Scope) (n : Nest) (line : ℕ) (to : ℕ) →
     IsStatement s n (stmt.Goto line to)
-    ≡ (Contains (labels_in s.function.body) to)
+    ≡ (IsLabel s.names to)
 unfolding IsStatement hidden-the_row-TStmt-1 hidden
 IsStatement-Goto s n line to = refl
 
@@ -168,19 +167,19 @@ IsStatement-Return s n line x = refl
 
 pub IsStatement-Become : (s : Scope) (n : Nest) (line : ℕ) (a : TExpr) →
     IsStatement s n (stmt.Become line a)
-    ≡ (IsCall s a × (type_of a ≡ s.function.returns))
+    ≡ (IsCall s a × IsReturned s.names (type_of a))
 unfolding IsStatement hidden-the_row-TStmt-1 hidden
 IsStatement-Become s n line a = refl
 
 pub IsStatement-Break : (s : Scope) (n : Nest) (line : ℕ) (levels : ℕ) →
     IsStatement s n (stmt.Break line levels)
-    ≡ ((1 ≤ levels) × (levels ≤ n.breaks))
+    ≡ (AreRound s.names levels n.breaks)
 unfolding IsStatement hidden-the_row-TStmt-1 hidden
 IsStatement-Break s n line levels = refl
 
 pub IsStatement-Continue : (s : Scope) (n : Nest) (line : ℕ) (levels : ℕ) →
     IsStatement s n (stmt.Continue line levels)
-    ≡ ((1 ≤ levels) × (levels ≤ n.loops))
+    ≡ (AreRound s.names levels n.loops)
 unfolding IsStatement hidden-the_row-TStmt-1 hidden
 IsStatement-Continue s n line levels = refl
 

@@ -1,9 +1,7 @@
 -- What the pieces of each kind of statement add to running sums.
-use Rattle.std.proofs.Common.{◌≡◌, ℕ, List, [], ◌∷◌, ◌++◌, map, Bool, true, false, Option, Some, None, refl, ap, sym, ◌∙◌}
-use Rattle.std.specs.Prelude.{fold}
+use Rattle.std.proofs.Common.{◌≡◌, ℕ, List, [], ◌∷◌, ◌++◌, false, Option, Some, None, refl, ap, ◌∙◌}
 use Rattle.std.specs.List.{flat_map}
 use Rattle.al_typed.specs.declared.tally.Tally.{Tally}
-use Rattle.al_typed.specs.declared.piece.Piece.{Piece}
 use Rattle.al_typed.specs.declared.piece.Piece.TheVariants as piece
 use Rattle.al_typed.specs.declared.program.Program.{Program}
 use Rattle.al_typed.specs.declared.expression.TExpr.{TExpr}

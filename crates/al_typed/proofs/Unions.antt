@@ -1,5 +1,5 @@
 -- Members over each other, as the code finds their room.
-use Rattle.std.proofs.Common.{◌≡◌, ℕ, ◌+◌, ◌/◌, ◌^◌, ◌<◌, ◌≤◌, max, List, [], ◌∷◌, map, take, length, arith, refl, ap, sym, ◌∙◌, get_or}
+use Rattle.std.proofs.Common.{◌≡◌, ℕ, ◌+◌, ◌/◌, ◌^◌, ◌<◌, ◌≤◌, max, List, map, take, length, arith, refl, ap, sym, ◌∙◌, get_or}
 use Rattle.std.specs.Prelude.{fold, Bool, false}
 use Rattle.std.proofs.lemmas.List.{get_or-map, length-map, take_all}
 use Rattle.std.proofs.lemmas.List.FromFn.{length-map-range_with_len}
@@ -8,7 +8,7 @@ use Rattle.al_typed.specs.declared.layout.Room.{Room}
 use Rattle.al_typed.specs.declared.program.Aggregate.{Aggregate}
 use Rattle.al_typed.specs.declared.ty.Ty.{Ty}
 use Rattle.al_typed.specs.Capped.{capped}
-use Rattle.al_typed.specs.Layout.{Extent, Layout, Measured, in_order, layout, members_layout, over_each_other, rounded, unit_at, widened}
+use Rattle.al_typed.specs.Layout.{Extent, Layout, Measured, in_order, layout, members_layout, over_each_other, rounded, widened}
 use Rattle.al_typed.proofs.CappedLemmas.{capped-rounded}
 use Rattle.al_typed.proofs.Fitting.{in_order_fits, layouts_fit}
 use Rattle.al_typed.proofs.Placing.{over_each_other-units}

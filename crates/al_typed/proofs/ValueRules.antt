@@ -1,12 +1,9 @@
 -- What the rules ask of each kind of expression, place, target and object.
-use Rattle.std.proofs.Common.{◌≡◌, ℕ, ◌<◌, ◌≤◌, List, [], ◌∷◌, ◌++◌, map, length, Bool, true, false, Option, Some, None, refl, ap, sym, ◌∙◌}
-use Rattle.std.specs.Prelude.{slice_get, ⊤}
+use Rattle.std.proofs.Common.{◌≡◌, ℕ, ◌<◌, List, [], ◌∷◌, ◌++◌, map, true, false, Option, Some, None, refl, ap, ◌∙◌}
+use Rattle.std.specs.Prelude.{⊤}
 use Rattle.al_base.specs.declared.arith.Kind.{Kind}
 use Rattle.al_typed.specs.declared.ty.Ty.{Ty}
 use Rattle.al_typed.specs.declared.ty.Ty.TheVariants as ty
-use Rattle.al_typed.specs.declared.program.Function.{Function as FunctionRow}
-use Rattle.al_typed.specs.declared.program.Global.{Global as GlobalRow}
-use Rattle.al_typed.specs.declared.program.Local.{Local as LocalRow}
 use Rattle.al_typed.specs.declared.expression.UnaryOp.{UnaryOp}
 use Rattle.al_typed.specs.declared.expression.BinaryOp.{BinaryOp}
 use Rattle.al_typed.specs.declared.expression.Logic.{Logic}
@@ -27,8 +24,8 @@ use Rattle.al_typed.specs.declared.expression.TReceiver.{TReceiver}
 use Rattle.al_typed.specs.declared.expression.TReceiver.TheVariants as receiver
 use denote.Hole.Carrier.{hidden}
 use Rattle.al_typed.specs.Types.{int, byte_pointer, void_pointer, promoted, is_array, is_scalar, is_complete, is_whole, points_to_complete}
-use Rattle.al_typed.specs.Typed.{type_of, place_type, target_type, row_types, target_types, parameter_types, function_type}
-use Rattle.al_typed.specs.WellTyped.{AreBitsOf, AreTargets, AreValues, Changes, Gives, HasAddress, IsArrayOf, IsCallable, IsChannel, IsChannelOf, IsGiven, IsInteger, IsLocal, IsOuter, IsPlace, IsPromoted, IsTarget, IsValue, LeadsTo, Prints, Scope, converts, is_sound, is_stepped, is_stored, passes, result_kind, rows}
+use Rattle.al_typed.specs.Typed.{type_of, place_type, target_type, row_types, target_types}
+use Rattle.al_typed.specs.WellTyped.{AreBitsOf, AreTargets, AreValues, Changes, Gives, HasAddress, IsArrayOf, IsChannel, IsChannelOf, IsFunctionOfType, IsGiven, IsGlobalOfType, IsLocalOfType, IsOuterOfType, IsPlace, IsPromoted, IsTarget, IsValue, LeadsTo, Prints, Scope, Takes, converts, is_sound, is_stepped, is_stored, passes, result_kind, rows, strings_of}
 
 -- ---- rows of parts as lists
 
@@ -85,7 +82,7 @@ IsValue-Constant s t bits = refl
 
 pub IsValue-Text : (s : Scope) (t : Ty) (number : ℕ) →
     IsValue s (expr.Text t number)
-    ≡ ((t ≡ byte_pointer) × (number < length s.program.strings))
+    ≡ ((t ≡ byte_pointer) × (number < strings_of s.names))
 unfolding IsValue hidden-the_row-TPlace-0 hidden-the_row-TExpr-1 hidden-the_row-TTarget-2 hidden-the_row-TReceiver-4 hidden
 IsValue-Text s t number = refl
 
@@ -97,7 +94,7 @@ IsValue-Nil s t = refl
 
 pub IsValue-Function : (s : Scope) (t : Ty) (number : ℕ) →
     IsValue s (expr.Function t number)
-    ≡ ((g : FunctionRow) × (IsCallable s.program number g × (t ≡ ty.Pointer (function_type g))))
+    ≡ (IsFunctionOfType s.names number t)
 unfolding IsValue hidden-the_row-TPlace-0 hidden-the_row-TExpr-1 hidden-the_row-TTarget-2 hidden-the_row-TReceiver-4 hidden
 IsValue-Function s t number = refl
 
@@ -253,19 +250,19 @@ IsValue-Iterator s t number = refl
 
 pub IsPlace-Local : (s : Scope) (t : Ty) (number : ℕ) →
     IsPlace s (place.Local t number)
-    ≡ ((l : LocalRow) × (IsLocal s.function number l × (l.ty ≡ t)))
+    ≡ (IsLocalOfType s.names number t)
 unfolding IsPlace hidden-the_row-TPlace-0 hidden-the_row-TExpr-1 hidden-the_row-TTarget-2 hidden-the_row-TReceiver-4 hidden
 IsPlace-Local s t number = refl
 
 pub IsPlace-Outer : (s : Scope) (t : Ty) (around : ℕ) (number : ℕ) →
     IsPlace s (place.Outer t around number)
-    ≡ (IsOuter s around number t)
+    ≡ (IsOuterOfType s.names around number t)
 unfolding IsPlace hidden-the_row-TPlace-0 hidden-the_row-TExpr-1 hidden-the_row-TTarget-2 hidden-the_row-TReceiver-4 hidden
 IsPlace-Outer s t around number = refl
 
 pub IsPlace-Global : (s : Scope) (t : Ty) (number : ℕ) →
     IsPlace s (place.Global t number)
-    ≡ ((g : GlobalRow) × ((slice_get s.program.globals number ≡ Some g) × (g.ty ≡ t)))
+    ≡ (IsGlobalOfType s.names number t)
 unfolding IsPlace hidden-the_row-TPlace-0 hidden-the_row-TExpr-1 hidden-the_row-TTarget-2 hidden-the_row-TReceiver-4 hidden
 IsPlace-Global s t number = refl
 
@@ -334,12 +331,12 @@ IsValue-Sequence s t xs a = ap (λ (V : Type 0). V × (IsValue s a × (type_of a
 
 pub IsValue-Call : (s : Scope) (t : Ty) (number : ℕ) (r : Option TReceiver) (xs : List TExpr) →
     IsValue s (expr.Call t number r xs)
-    ≡ ((g : FunctionRow) × (IsCallable s.program number g × ((t ≡ g.returns) × ((given : List Ty) × (IsGivenBy s r given × (EachValue s xs × (parameter_types g ≡ given ++ (map type_of xs))))))))
+    ≡ ((given : List Ty) × (IsGivenBy s r given × (EachValue s xs × Takes s.names number (given ++ (map type_of xs)) t)))
 unfolding IsValue IsGiven hidden-the_row-TPlace-0 hidden-the_row-TExpr-1 hidden-the_row-TTarget-2 hidden-the_row-TReceiver-4 hidden
 IsValue-Call s t number None xs =
-    ap (λ (V : Type 0). (g : FunctionRow) × (IsCallable s.program number g × ((t ≡ g.returns) × ((given : List Ty) × ((given ≡ []) × (V × (parameter_types g ≡ given ++ (row_types (hidden-the_row-TExpr-3 xs))))))))) (values_are s xs) ∙ ap (λ (ts : List Ty). (g : FunctionRow) × (IsCallable s.program number g × ((t ≡ g.returns) × ((given : List Ty) × ((given ≡ []) × (EachValue s xs × (parameter_types g ≡ given ++ ts))))))) (types_are xs)
+    ap (λ (V : Type 0). (given : List Ty) × ((given ≡ []) × (V × Takes s.names number (given ++ (row_types (hidden-the_row-TExpr-3 xs))) t))) (values_are s xs) ∙ ap (λ (ts : List Ty). (given : List Ty) × ((given ≡ []) × (EachValue s xs × Takes s.names number (given ++ ts) t))) (types_are xs)
 IsValue-Call s t number (Some r) xs =
-    ap (λ (V : Type 0). (g : FunctionRow) × (IsCallable s.program number g × ((t ≡ g.returns) × ((given : List Ty) × (Gives s r given × (V × (parameter_types g ≡ given ++ (row_types (hidden-the_row-TExpr-3 xs))))))))) (values_are s xs) ∙ ap (λ (ts : List Ty). (g : FunctionRow) × (IsCallable s.program number g × ((t ≡ g.returns) × ((given : List Ty) × (Gives s r given × (EachValue s xs × (parameter_types g ≡ given ++ ts))))))) (types_are xs)
+    ap (λ (V : Type 0). (given : List Ty) × (Gives s r given × (V × Takes s.names number (given ++ (row_types (hidden-the_row-TExpr-3 xs))) t))) (values_are s xs) ∙ ap (λ (ts : List Ty). (given : List Ty) × (Gives s r given × (EachValue s xs × Takes s.names number (given ++ ts) t))) (types_are xs)
 
 pub IsTarget-Parts : (s : Scope) (t : Ty) (xs : List TTarget) →
     IsTarget s (target.Parts t xs)

@@ -1,13 +1,11 @@
 -- Worked layouts.
-use Rattle.std.specs.Prelude.{◌≡◌, ℕ, true, false, List, [], ◌∷◌, Option, Some, None, refl}
+use Rattle.std.specs.Prelude.{◌≡◌, true, false, [], ◌∷◌, Some, refl}
 use Rattle.al_base.specs.declared.arith.Kind.TheVariants.{Byte, Usint, Int, Lint}
-use Rattle.al_typed.specs.declared.layout.Unit.{Unit}
 use Rattle.al_typed.specs.declared.program.Aggregate.{Aggregate}
-use Rattle.al_typed.specs.declared.ty.Ty.{Ty}
 use Rattle.al_typed.specs.declared.ty.Ty.TheVariants as ty
 use Rattle.al_typed.specs.declared.ty.Ty.TheBlock.{hidden-the_row-Ty-0}
 use denote.Hole.Carrier.{hidden}
-use Rattle.al_typed.specs.Layout.{Layout, Member, layout, member, unit_at, rounded, repeated, in_order, followed, over_each_other, layout_of, aggregate_layout, layouts_after, words_of, row_of}
+use Rattle.al_typed.specs.Layout.{layout, unit_at, rounded, repeated, in_order, followed, over_each_other, layout_of, aggregate_layout, layouts_after}
 
 -- aggr P{byte a;lint b;usint c;};
 abbrev pub p : Aggregate

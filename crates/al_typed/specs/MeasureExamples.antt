@@ -1,17 +1,15 @@
 -- Worked measures.
-use Rattle.std.specs.Prelude.{◌≡◌, ℕ, true, false, List, [], ◌∷◌, Option, Some, None, refl}
+use Rattle.std.specs.Prelude.{◌≡◌, ℕ, false, [], ◌∷◌, None, refl}
 use Rattle.al_base.specs.declared.arith.Kind.TheVariants as kind
 use Rattle.al_typed.specs.declared.expression.BinaryOp.TheVariants as op
 use Rattle.al_typed.specs.declared.expression.TExpr.{TExpr}
 use Rattle.al_typed.specs.declared.expression.TExpr.TheVariants as expr
-use Rattle.al_typed.specs.declared.expression.TExpr.TheBlock.{hidden-the_row-TPlace-0, hidden-the_row-TExpr-1, hidden-the_row-TTarget-2, hidden-the_row-TExpr-3, hidden-the_row-TReceiver-4, hidden-the_row-TTarget-5}
+use Rattle.al_typed.specs.declared.expression.TExpr.TheBlock.{hidden-the_row-TPlace-0, hidden-the_row-TExpr-1, hidden-the_row-TExpr-3}
 use Rattle.al_typed.specs.declared.expression.TPlace.TheVariants as place
-use Rattle.al_typed.specs.declared.statement.TStmt.{TStmt}
 use Rattle.al_typed.specs.declared.statement.TStmt.TheVariants as stmt
 use Rattle.al_typed.specs.declared.statement.TStmt.TheBlock.{hidden-the_row-TStmt-0, hidden-the_row-TStmt-1}
 use Rattle.al_typed.specs.declared.program.Function.{Function}
 use Rattle.al_typed.specs.declared.program.Program.{Program}
-use Rattle.al_typed.specs.declared.ty.Ty.{Ty}
 use Rattle.al_typed.specs.declared.ty.Ty.TheVariants as ty
 use Rattle.al_typed.specs.declared.ty.Ty.TheViews.{out-Ty}
 use denote.Hole.Carrier.{hidden, out}

@@ -4,7 +4,7 @@
 -- Nodes are counted as the text has them: the value of a place, an array as a value and a conversion that the typing rules
 -- made are no nodes beside what they are made of. The words of a place that stands before `.` and is not passed by value,
 -- and of the operand of `&` or sizeof, are taken as one.
-use Rattle.std.specs.Prelude.{ℕ, ◌+◌, ◌/◌, ◌≤◌, nat_lt, max, Bool, true, false, if◌then◌else◌, List, [], ◌∷◌, ◌++◌, map, fold, sum_by, filter, length, take, drop, Option, Some, None, slice_get, unwrap_or, Result, Ok, Err}
+use Rattle.std.specs.Prelude.{ℕ, ◌+◌, ◌/◌, ◌≤◌, nat_lt, max, Bool, true, false, if◌then◌else◌, List, [], ◌∷◌, ◌++◌, fold, sum_by, filter, length, drop, Option, Some, None, slice_get, unwrap_or, Result, Ok, Err}
 use Rattle.std.specs.List.{flat_map}
 use Rattle.al_typed.specs.declared.ty.Ty.{Ty}
 use Rattle.al_typed.specs.declared.ty.Ty.TheVariants as ty
@@ -18,7 +18,7 @@ use Rattle.al_typed.specs.declared.expression.Passed.{Passed}
 use Rattle.al_typed.specs.declared.expression.Passed.TheVariants as passed
 use Rattle.al_typed.specs.declared.expression.PrintPiece.{PrintPiece}
 use Rattle.al_typed.specs.declared.expression.PrintPiece.TheVariants as print
-use Rattle.al_typed.specs.declared.expression.TExpr.{TExpr, Constant, Text, Nil, Function, SizeofType, Tuple', Call', CallPointer', Print', Sequence', Iterator, Held-TExpr-Call-2, None', Some', Row_of-TExpr, end_of-TExpr, more_of-TExpr, Row_of-TPlace, end_of-TPlace, more_of-TPlace, Row_of-TTarget, end_of-TTarget, more_of-TTarget, Row_of-TReceiver, end_of-TReceiver, more_of-TReceiver}
+use Rattle.al_typed.specs.declared.expression.TExpr.{TExpr, Constant, Text, Nil, Function, SizeofType, Tuple', Call', CallPointer', Print', Sequence', Iterator, Held-TExpr-Call-2, None', Some', Row_of-TExpr, end_of-TExpr, more_of-TExpr, Row_of-TTarget, end_of-TTarget, more_of-TTarget, end_of-TReceiver, more_of-TReceiver}
 use Rattle.al_typed.specs.declared.expression.TPlace.{TPlace, Local, Outer, Global}
 use Rattle.al_typed.specs.declared.expression.TTarget.{TTarget, Dropped, Parts'}
 use Rattle.al_typed.specs.declared.expression.TReceiver.{TReceiver}
@@ -36,7 +36,7 @@ use Rattle.al_typed.specs.ExpressionForms as form
 use Rattle.al_typed.specs.StatementForms as part
 use Rattle.al_typed.specs.Capped.{capped}
 use Rattle.al_typed.specs.Layout.{words_of, size_of}
-use Rattle.al_typed.specs.Typed.{type_of, place_type, target_type, callee_of, parameter_types, local_types}
+use Rattle.al_typed.specs.Typed.{type_of, target_type, callee_of, parameter_types, local_types}
 
 -- ---- the pieces of a function
 

@@ -1,10 +1,9 @@
 -- What stands in a typed program at a number, and the types of its expressions.
-use Rattle.std.specs.Prelude.{ℕ, ◌+◌, List, [], ◌∷◌, map, take, length, Option, Some, None, slice_get, unwrap_or}
+use Rattle.std.specs.Prelude.{ℕ, List, [], ◌∷◌, map, take, Option, Some, None}
 use Rattle.al_typed.specs.declared.ty.Ty.{Ty}
 use Rattle.al_typed.specs.declared.ty.Ty.TheVariants as ty
 use Rattle.al_typed.specs.declared.program.Function.{Function as FunctionRow}
 use Rattle.al_typed.specs.declared.program.Local.{Local}
-use Rattle.al_typed.specs.declared.program.Program.{Program}
 use Rattle.al_typed.specs.declared.expression.TExpr.{TExpr, Constant, Text, Nil, Function, Load', Decay', Address', SizeofType, SizeofPlace', SizeofValue', Unary', Not', Binary', Logical', Move', Difference', Assign', Update', Step', Zerox', Tuple', Call', CallPointer', Print', Terminate', Receive', Send', CanReceive', CanSend', MemberOf', Cast', Convert', Sequence', Iterator, Row_of-TExpr, end_of-TExpr, more_of-TExpr}
 use Rattle.al_typed.specs.declared.expression.TPlace.{TPlace, Local as Local_, Outer, Global, Pointed', Element', Member', PointedMember'}
 use Rattle.al_typed.specs.declared.expression.TTarget.{TTarget, Dropped, Parts', Row_of-TTarget, end_of-TTarget, more_of-TTarget}

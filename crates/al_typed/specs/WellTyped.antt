@@ -1,6 +1,6 @@
 -- Well-typed programs: what the typing rules leave of types, names, functions and expressions. Every number names what is
 -- there, every value has the type that is asked for, and every jump has a target.
-use Rattle.std.specs.Prelude.{◌≡◌, ℕ, ◌+◌, ◌-◌, ◌*◌, ◌<◌, ◌≤◌, ◌^◌, nat_lt, nat_le, nat_eq, Bool, true, false, not, ◌&&◌, ◌||◌, if◌then◌else◌, List, [], ◌∷◌, ◌++◌, map, filter, length, take, All, AllPairs, Contains, Option, Some, None, slice_get, ◌⊎◌, ⊤}
+use Rattle.std.specs.Prelude.{◌≡◌, ℕ, ◌+◌, ◌*◌, ◌<◌, ◌≤◌, ◌^◌, nat_lt, nat_le, nat_eq, Bool, true, false, ◌&&◌, ◌||◌, List, [], ◌∷◌, ◌++◌, map, filter, length, All, AllPairs, Contains, Option, Some, None, slice_get, ◌⊎◌, ⊤}
 use Rattle.al_base.specs.Arith.{width_of}
 use Rattle.al_base.specs.declared.arith.Kind.{Kind}
 use Rattle.al_base.specs.declared.arith.Kind.TheVariants as kind
@@ -23,7 +23,7 @@ use Rattle.al_typed.specs.declared.expression.Passed.{Passed}
 use Rattle.al_typed.specs.declared.expression.Passed.TheVariants as passed
 use Rattle.al_typed.specs.declared.expression.PrintPiece.{PrintPiece}
 use Rattle.al_typed.specs.declared.expression.PrintPiece.TheVariants as print
-use Rattle.al_typed.specs.declared.expression.TExpr.{TExpr, Constant, Text, Nil, Function as FunctionValue, SizeofType, Tuple' as TupleOf', Call', CallPointer', Print', Sequence', Iterator, Held-TExpr-Call-2, None', Some', Row_of-TExpr, end_of-TExpr, more_of-TExpr, Row_of-TPlace, end_of-TPlace, more_of-TPlace, Row_of-TTarget, end_of-TTarget, more_of-TTarget, Row_of-TReceiver, end_of-TReceiver, more_of-TReceiver}
+use Rattle.al_typed.specs.declared.expression.TExpr.{TExpr, Constant, Text, Nil, Function as FunctionValue, SizeofType, Tuple' as TupleOf', Call', CallPointer', Print', Sequence', Iterator, Held-TExpr-Call-2, None', Some', Row_of-TExpr, end_of-TExpr, more_of-TExpr, Row_of-TTarget, end_of-TTarget, more_of-TTarget, end_of-TReceiver, more_of-TReceiver}
 use Rattle.al_typed.specs.declared.expression.TPlace.{TPlace, Local, Outer, Global}
 use Rattle.al_typed.specs.declared.expression.TTarget.{TTarget, Dropped, Parts'}
 use Rattle.al_typed.specs.declared.expression.TReceiver.{TReceiver}
@@ -35,7 +35,7 @@ use Rattle.al_typed.specs.declared.statement.TStmt.{TStmt, Empty, Block', Declar
 use Rattle.al_typed.specs.declared.statement.TStmt as stmt
 use Rattle.al_typed.specs.ExpressionForms as form
 use Rattle.al_typed.specs.StatementForms as part
-use Rattle.al_typed.specs.Types.{int, byte_pointer, void_pointer, bytes_of, promoted, is_array, is_void, is_scalar, may_be_private, is_complete, is_whole, points_to_complete}
+use Rattle.al_typed.specs.Types.{int, byte_pointer, void_pointer, promoted, is_array, is_void, is_scalar, may_be_private, is_complete, is_whole, points_to_complete}
 use Rattle.al_typed.specs.Layout.{Member, IsLaidOut, layout, size_of, units_of, in_order, member, members_of}
 use Rattle.al_typed.specs.Typed.{type_of, place_type, target_type, row_types, target_types, callee_of, local_types, parameter_types, function_type}
 
@@ -168,14 +168,29 @@ Prints (_ ∷ rest) [] = ⊥
 
 -- ---- names
 
--- where an expression stands: in which function, and in a statement with how many iterators
+-- What names stand for where an expression stands: in a function of a program each number leads to a row there. Where only the
+-- types of terms count, a number may stand for any place or function of sound types, and it is known which types have members,
+-- and how many strings and functions there are.
+pub data Names : Type 0 where
+  names_in : Program → FunctionRow → Names
+  any_names : List AggregateRow → ℕ → ℕ → Names
+
+-- where an expression stands: among which names, and in a statement with how many iterators
 pub record Scope : Type 0 where
-  pub program : Program
-  pub function : FunctionRow
+  pub names : Names
   pub iterators : ℕ
 
+abbrev pub rows_of : Names → List AggregateRow
+rows_of (names_in p f) = p.aggregates
+rows_of (any_names rows strings functions) = rows
+
 abbrev pub rows : Scope → List AggregateRow
-rows s = s.program.aggregates
+rows s = rows_of s.names
+
+-- how many strings there are
+abbrev pub strings_of : Names → ℕ
+strings_of (names_in p f) = length p.strings
+strings_of (any_names rows strings functions) = strings
 
 -- the local of that number
 abbrev pub IsLocal : FunctionRow → ℕ → LocalRow → Type 0
@@ -186,20 +201,51 @@ abbrev pub IsCallable : Program → ℕ → FunctionRow → Type 0
 IsCallable p number g = (slice_get p.functions number ≡ Some g) × (g.around ≡ [])
 
 -- the local of a function round a branch
-pub record IsOuter (s : Scope) (around number : ℕ) (t : Ty) : Type 0 where
+pub record IsOuter (p : Program) (f : FunctionRow) (around number : ℕ) (t : Ty) : Type 0 where
   pub outer : ℕ
-  pub is_round : slice_get s.function.around around ≡ Some outer
+  pub is_round : slice_get f.around around ≡ Some outer
   pub function : FunctionRow
-  pub is_there : slice_get s.program.functions outer ≡ Some function
+  pub is_there : slice_get p.functions outer ≡ Some function
   pub var : LocalRow
   pub is_local : IsLocal function number var
   pub is_shared : var.is_shared ≡ true
   pub is : var.ty ≡ t
 
+-- a local, a local of a function round a branch, and a global of a type
+abbrev pub IsLocalOfType : Names → ℕ → Ty → Type 0
+IsLocalOfType (names_in p f) number t = (l : LocalRow) × (IsLocal f number l × (l.ty ≡ t))
+IsLocalOfType (any_names rows strings functions) number t = is_stored rows t ≡ true
+
+abbrev pub IsOuterOfType : Names → ℕ → ℕ → Ty → Type 0
+IsOuterOfType (names_in p f) around number t = IsOuter p f around number t
+IsOuterOfType (any_names rows strings functions) around number t = is_stored rows t ≡ true
+
+abbrev pub IsGlobalOfType : Names → ℕ → Ty → Type 0
+IsGlobalOfType (names_in p f) number t = (g : GlobalRow) × ((slice_get p.globals number ≡ Some g) × (g.ty ≡ t))
+IsGlobalOfType (any_names rows strings functions) number t = is_stored rows t ≡ true
+
+-- a function's name as a value of a type
+abbrev pub IsFunctionOfType : Names → ℕ → Ty → Type 0
+IsFunctionOfType (names_in p f) number t = (g : FunctionRow) × (IsCallable p number g × (t ≡ ty.Pointer (function_type g)))
+IsFunctionOfType (any_names rows strings functions) number t = (is_sound rows t ≡ true) × (number < functions)
+
+-- the function of that number takes values of these types, and returns one of that type
+abbrev pub Takes : Names → ℕ → List Ty → Ty → Type 0
+Takes (names_in p f) number taken returned = (g : FunctionRow) × (IsCallable p number g × ((returned ≡ g.returns) × (parameter_types g ≡ taken)))
+Takes (any_names rows strings functions) number taken returned = is_sound rows returned ≡ true
+
 -- What has an address: all places but private variables.
+abbrev pub IsSharedLocal : Names → ℕ → Type 0
+IsSharedLocal (names_in p f) number = (l : LocalRow) × (IsLocal f number l × (l.is_shared ≡ true))
+IsSharedLocal (any_names rows strings functions) number = ⊤
+
+abbrev pub IsSharedGlobal : Names → ℕ → Type 0
+IsSharedGlobal (names_in p f) number = (g : GlobalRow) × ((slice_get p.globals number ≡ Some g) × (g.is_private ≡ false))
+IsSharedGlobal (any_names rows strings functions) number = ⊤
+
 abbrev pub HasAddress : Scope → TPlace → Type 0
-HasAddress s (Local t number) = (l : LocalRow) × (IsLocal s.function number l × (l.is_shared ≡ true))
-HasAddress s (Global t number) = (g : GlobalRow) × ((slice_get s.program.globals number ≡ Some g) × (g.is_private ≡ false))
+HasAddress s (Local t number) = IsSharedLocal s.names number
+HasAddress s (Global t number) = IsSharedGlobal s.names number
 HasAddress s _ = ⊤
 
 -- what a function of an adt gets of its object
@@ -213,9 +259,9 @@ passes passed.Nothing t = []
 unfoldable mutual
   pub IsValue : Scope → TExpr → Type 0
   IsValue s (Constant t bits) = AreBitsOf t bits
-  IsValue s (Text t number) = (t ≡ byte_pointer) × (number < length s.program.strings)
+  IsValue s (Text t number) = (t ≡ byte_pointer) × (number < strings_of s.names)
   IsValue s (Nil t) = t ≡ void_pointer
-  IsValue s (FunctionValue t number) = (g : FunctionRow) × (IsCallable s.program number g × (t ≡ ty.Pointer (function_type g)))
+  IsValue s (FunctionValue t number) = IsFunctionOfType s.names number t
   IsValue s (form.load t place) = IsPlace s place × ((place_type place ≡ t) × (is_whole (rows s) t ≡ true))
   IsValue s (form.decay t place) = IsPlace s place × ((element : Ty) × (IsArrayOf (place_type place) element × (t ≡ ty.Pointer element)))
   IsValue s (form.address t place) = IsPlace s place × (HasAddress s place × (t ≡ ty.Pointer (place_type place)))
@@ -243,8 +289,7 @@ unfoldable mutual
   IsValue s (form.zerox t place) = IsPlace s place × ((place_type place ≡ t) × (is_whole (rows s) t ≡ true))
   IsValue s (TupleOf' t _ parts) = (is_sound (rows s) t ≡ true) × (AreValues s parts × (t ≡ ty.Tuple (row_types parts)))
   IsValue s (Call' t number receiver _ arguments) =
-      (g : FunctionRow) × (IsCallable s.program number g × ((t ≡ g.returns)
-      × ((given : List Ty) × (IsGiven s receiver given × (AreValues s arguments × (parameter_types g ≡ given ++ row_types arguments))))))
+      (given : List Ty) × (IsGiven s receiver given × (AreValues s arguments × Takes s.names number (given ++ row_types arguments) t))
   IsValue s (CallPointer' t _ (more_of-TExpr pointer end_of-TExpr) _ arguments) =
       IsValue s pointer × (AreValues s arguments × (type_of pointer ≡ ty.Pointer (ty.Function t (row_types arguments))))
   IsValue s (Print' t format _ arguments) = (t ≡ ty.Void) × (AreValues s arguments × Prints format (row_types arguments))
@@ -264,9 +309,9 @@ unfoldable mutual
   AreValues s (more_of-TExpr e rest) = IsValue s e × AreValues s rest
 
   pub IsPlace : Scope → TPlace → Type 0
-  IsPlace s (Local t number) = (l : LocalRow) × (IsLocal s.function number l × (l.ty ≡ t))
-  IsPlace s (Outer t around number) = IsOuter s around number t
-  IsPlace s (Global t number) = (g : GlobalRow) × ((slice_get s.program.globals number ≡ Some g) × (g.ty ≡ t))
+  IsPlace s (Local t number) = IsLocalOfType s.names number t
+  IsPlace s (Outer t around number) = IsOuterOfType s.names around number t
+  IsPlace s (Global t number) = IsGlobalOfType s.names number t
   IsPlace s (form.pointed t pointer) = IsValue s pointer × (type_of pointer ≡ ty.Pointer t)
   IsPlace s (form.element t base index) =
       (is_complete (rows s) t ≡ true) × (IsValue s base × ((type_of base ≡ ty.Pointer t) × (IsValue s index × (type_of index ≡ int))))
@@ -342,7 +387,7 @@ AreBounds s b = IsValue s b.from × ((type_of b.from ≡ int) × (IsValue s b.to
 
 abbrev pub IsInitializer : Scope → TInitializer → Type 0
 IsInitializer s i =
-    IsValue s i.value × ((l : LocalRow) × (IsLocal s.function i.local l × ((l.ty ≡ type_of i.value) × (is_array l.ty ≡ false))))
+    IsValue s i.value × (IsLocalOfType s.names i.local (type_of i.value) × (is_array (type_of i.value) ≡ false))
 
 -- a pointer to a complete type, or a channel
 abbrev pub Allocates : Scope → TPlace → Type 0
@@ -357,15 +402,23 @@ Communicates s (talk.ReceiveInto t target chan) =
     IsTarget s target × (IsValue s chan × (IsChannelOf (type_of chan) t × (converts t (target_type target) ≡ true)))
 Communicates s (talk.Send chan value) = IsValue s chan × (IsValue s value × IsChannelOf (type_of chan) (type_of value))
 
--- a value that the function at hand returns
+-- a type of what the function at hand returns
+abbrev pub IsReturned : Names → Ty → Type 0
+IsReturned (names_in p f) t = t ≡ f.returns
+IsReturned (any_names rows strings functions) t = ⊤
+
 abbrev pub Returns : Scope → Option TExpr → Type 0
-Returns s None = s.function.returns ≡ ty.Void
-Returns s (Some e) = IsValue s e × (type_of e ≡ s.function.returns)
+Returns s None = IsReturned s.names ty.Void
+Returns s (Some e) = IsValue s e × IsReturned s.names (type_of e)
 
 -- a branch of a par of the function of that number
-abbrev pub IsBranch : Scope → ℕ → ℕ → Type 0
-IsBranch s number branch =
-    (b : FunctionRow) × ((slice_get s.program.functions branch ≡ Some b) × (b.around ≡ s.function.around ++ number ∷ []))
+abbrev pub IsBranch : Program → FunctionRow → ℕ → ℕ → Type 0
+IsBranch p f number branch =
+    (b : FunctionRow) × ((slice_get p.functions branch ≡ Some b) × (b.around ≡ f.around ++ number ∷ []))
+
+abbrev pub AreBranches : Names → ℕ → List ℕ → Type 0
+AreBranches (names_in p f) number branches = (1 ≤ length branches) × ((length branches ≤ 64) × All (IsBranch p f number) branches)
+AreBranches (any_names rows strings functions) number branches = ⊤
 
 -- a label of a case of a switch over that kind
 abbrev pub IsCase : CaseLabels → Scope → TExpr → ℕ → Type 0
@@ -423,6 +476,19 @@ abbrev mutual
   rescues_in_row end_of-TStmt = []
   rescues_in_row (more_of-TStmt a rest) = rescues_in a ++ rescues_in_row rest
 
+-- the targets of a raise, of a goto, and of a break or continue of so many levels where so many are round it
+abbrev pub IsRescue : Names → ℕ → Type 0
+IsRescue (names_in p f) rescue = Contains (rescues_in f.body) rescue
+IsRescue (any_names rows strings functions) rescue = ⊤
+
+abbrev pub IsLabel : Names → ℕ → Type 0
+IsLabel (names_in p f) label = Contains (labels_in f.body) label
+IsLabel (any_names rows strings functions) label = ⊤
+
+abbrev pub AreRound : Names → ℕ → ℕ → Type 0
+AreRound (names_in p f) levels most = (1 ≤ levels) × (levels ≤ most)
+AreRound (any_names rows strings functions) levels most = ⊤
+
 -- how many cases the body of an alt has
 abbrev pub alt_cases : {m : _} → Row_of-TStmt m → ℕ
 alt_cases end_of-TStmt = 0
@@ -449,14 +515,14 @@ unfoldable mutual
   IsStatement s n Default = IsDefault n.labels
   IsStatement s n (Alt' _ _ body) = (1 ≤ alt_cases body) × ((alt_cases body ≤ 64) × AreStatements s (in_cases alt_labels n) body)
   IsStatement s n (AltCase communication) = IsAltCase n.labels s communication
-  IsStatement s n (Par _ branches) = (1 ≤ length branches) × ((length branches ≤ 64) × All (IsBranch s n.number) branches)
+  IsStatement s n (Par _ branches) = AreBranches s.names n.number branches
   IsStatement s n (part.rescue _ _ body) = IsStatement s (inside n) body
-  IsStatement s n (Raise _ rescue) = Contains (rescues_in s.function.body) rescue
-  IsStatement s n (Goto _ label) = Contains (labels_in s.function.body) label
+  IsStatement s n (Raise _ rescue) = IsRescue s.names rescue
+  IsStatement s n (Goto _ label) = IsLabel s.names label
   IsStatement s n (Return _ value) = Returns s value
-  IsStatement s n (Become _ call) = IsCall s call × (type_of call ≡ s.function.returns)
-  IsStatement s n (Break _ levels) = (1 ≤ levels) × (levels ≤ n.breaks)
-  IsStatement s n (Continue _ levels) = (1 ≤ levels) × (levels ≤ n.loops)
+  IsStatement s n (Become _ call) = IsCall s call × IsReturned s.names (type_of call)
+  IsStatement s n (Break _ levels) = AreRound s.names levels n.breaks
+  IsStatement s n (Continue _ levels) = AreRound s.names levels n.loops
   IsStatement s n (Alloc _ places) = All (Allocates s) places
   IsStatement s n (Unalloc _ values) = All (GivesBack s) values
   IsStatement s n (Check _ value) = IsCondition s value
@@ -496,7 +562,7 @@ pub record IsFunction (p : Program) (number : ℕ) (f : FunctionRow) : Type 0 wh
   pub stands : StandsIn p number f
   pub labels : All (λ n. n < f.labels) (labels_in f.body ++ rescues_in f.body)
   pub distinct : AllPairs (λ a b. a ≡ b → ⊥) (labels_in f.body ++ rescues_in f.body)
-  pub body : IsStatement (record { program = p; function = f; iterators = 0 }) (record { number = number; breaks = 0; loops = 0; labels = no_labels }) f.body
+  pub body : IsStatement (record { names = names_in p f; iterators = 0 }) (record { number = number; breaks = 0; loops = 0; labels = no_labels }) f.body
 
 -- a word that a unit of so many bytes may start with; the address of a string takes 4
 abbrev pub FitsIn : Program → ℕ → StartWord → Type 0

@@ -1,6 +1,3 @@
-use Rattle.std.proofs.Common.{◌≡◌, ◌∙◌, ap, sym, arith, true}
-use Rattle.std.specs.List.{list_all}
-use Rattle.al_typed.specs.Types.{is_complete}
 use Rattle.al_typed.proofs.Completeness.{all_so_far, one_more_is}
 use Rattle.al_typed.proofs.complete.+complete.Goals as goal
 

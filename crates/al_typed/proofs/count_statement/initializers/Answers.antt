@@ -1,6 +1,5 @@
-use Rattle.std.proofs.Common.{◌∙◌, false}
 use Rattle.al_typed.specs.Measures.{initializer_pieces}
-use Rattle.al_typed.proofs.Steps.{tallied-nil, tallied_more, counted_one}
+use Rattle.al_typed.proofs.Steps.{tallied-nil, tallied_more}
 use Rattle.al_typed.proofs.count_statement.initializers.Goals as goal
 
 pub loop-initializer-init : goal.loop-initializer-init

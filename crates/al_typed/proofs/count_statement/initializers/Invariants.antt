@@ -1,4 +1,4 @@
-use Rattle.std.proofs.Common.{◌≡◌, take, false}
+use Rattle.std.proofs.Common.{◌≡◌, take}
 use Rattle.std.specs.List.{flat_map}
 use Rattle.al_typed.specs.Measures.{tallied, initializer_pieces}
 use Rattle.al_typed.proofs.count_statement.initializers.Given as goal

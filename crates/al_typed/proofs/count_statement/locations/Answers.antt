@@ -1,6 +1,6 @@
-use Rattle.std.proofs.Common.{◌∙◌, false}
+use Rattle.std.proofs.Common.{false}
 use Rattle.al_typed.specs.Measures.{place_pieces}
-use Rattle.al_typed.proofs.Steps.{tallied-nil, tallied_more, counted_one}
+use Rattle.al_typed.proofs.Steps.{tallied-nil, tallied_more}
 use Rattle.al_typed.proofs.count_statement.locations.Goals as goal
 
 pub loop-place-init : goal.loop-place-init

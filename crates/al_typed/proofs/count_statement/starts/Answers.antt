@@ -1,6 +1,5 @@
-use Rattle.std.proofs.Common.{◌∙◌, false}
 use Rattle.al_typed.specs.Measures.{start_pieces}
-use Rattle.al_typed.proofs.Steps.{tallied-nil, tallied_more, counted_one}
+use Rattle.al_typed.proofs.Steps.{tallied-nil, tallied_more}
 use Rattle.al_typed.proofs.count_statement.starts.Goals as goal
 
 pub loop-call-init : goal.loop-call-init

@@ -1,12 +1,9 @@
-use Rattle.std.proofs.Common.{◌≡◌, ◌≤◌, ◌<◌, ◌+◌, ℕ, List, [], ◌∷◌, map, length, take, get_or, refl, ap, sym, ◌∙◌, subst, arith}
+use Rattle.std.proofs.Common.{◌≡◌, ◌≤◌, ◌<◌, ℕ, List, [], ◌∷◌, map, length, refl, sym, ◌∙◌, subst, arith}
 use Rattle.std.specs.Prelude.{fold, ◌==◌, true, false}
 use Rattle.std.proofs.lemmas.Bool.Decides.{nat_tests}
-use Rattle.std.proofs.lemmas.List.{length-map, take_all, get_or-map}
-use Rattle.std.proofs.lemmas.List.Sums.{fold_more}
+use Rattle.std.proofs.lemmas.List.{length-map, take_all}
 use Rattle.al_typed.specs.declared.ty.Ty.{Ty}
 use Rattle.al_typed.specs.declared.program.Aggregate.{Aggregate}
-use Rattle.al_typed.specs.declared.layout.Room.{Room}
-use Rattle.al_typed.specs.declared.layout.PlacedSoFar.{PlacedSoFar}
 use Rattle.al_typed.specs.Layout.{Layout, Run, Measured, RunsTo, in_order, layout, followed, begun}
 use Rattle.al_typed.proofs.CappedLemmas.{followed_kept}
 use Rattle.al_typed.proofs.Layouts.{closed_kept}

@@ -1,4 +1,4 @@
-use Rattle.std.proofs.Common.{◌≡◌, ◌≤◌, take, map}
+use Rattle.std.proofs.Common.{◌≤◌, take, map}
 use Rattle.std.specs.Prelude.{fold}
 use Rattle.al_typed.specs.Layout.{RunsTo, layout, followed, begun}
 use Rattle.al_typed.proofs.layout.+rooms.Given as goal

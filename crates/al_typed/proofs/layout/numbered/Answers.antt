@@ -1,6 +1,5 @@
-use Rattle.std.proofs.Common.{◌≡◌, ◌≤◌, arith, sym, subst}
+use Rattle.std.proofs.Common.{arith, sym, subst}
 use Rattle.al_typed.specs.Layout.{Layout, Measured}
-use Rattle.al_typed.specs.declared.ty.Ty.TheVariants as ty
 use Rattle.al_typed.proofs.Layouts.{layout-none, kept_measured, kept-align}
 use Rattle.al_typed.proofs.layout.numbered.Goals as goal
 
