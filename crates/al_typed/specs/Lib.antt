@@ -6,6 +6,7 @@ pub mod ExpressionForms
 pub mod StatementForms
 pub mod Typed
 pub mod WellTyped
+pub mod Sound
 pub mod Measures
 pub mod Examples
 pub mod MeasureExamples
