@@ -15,6 +15,7 @@ use Rattle.al_typed.specs.declared.program.Local.{Local}
 use Rattle.al_typed.specs.Types.{may_be_private}
 use Rattle.al_typed.specs.Layout.{in_order, layout}
 use Rattle.al_typed.specs.WellTyped.{shared_types}
+use Rattle.al_sound_types.specs.Types.{types_hold}
 use Rattle.al_environment.specs.declared.environment.Variable.{Variable}
 use Rattle.al_type_rules.specs.Types.{known}
 use Rattle.al_body_parts.specs.declared.parts.DeclaredLocal.{DeclaredLocal}
@@ -76,6 +77,11 @@ rule_18_locals rows ls = nat_le (in_order (map (layout rows) (shared_types ls)))
 
 abbrev pub locals_faults : List Aggregate → Place → List Local → List TypeFault
 locals_faults rows at ls = ask 18 at (rule_18_locals rows ls)
+
+-- Parameters and locals are stored, and the types that are written in a body are sound. The rules that say so are asked where a type is written, at the
+-- place of what breaks them. Here they are asked of types as wholes, behind all others.
+abbrev pub types_faults : List Aggregate → Place → List Local → (written : List Ty) → List TypeFault
+types_faults rows at ls written = ask 18 at (types_hold rows ls written)
 
 -- ---- both, of a function or branch with that body, round which so many functions are, and which has so many labels
 

@@ -9,7 +9,7 @@ use crate::locals::{bytes_of, push_locals, push_parameters};
 use crate::numbers::{FunctionNumbers, capped};
 use crate::outline::Outline;
 use crate::own::{here_in, own_adt};
-use crate::rule::ask_locals;
+use crate::rule::{ask_locals, ask_types};
 use crate::texts::{text_bytes, text_numbers};
 use al_base::NoMemory;
 use al_body_parts::{Parts, body_parts};
@@ -108,6 +108,13 @@ fn faults_of(
         env.aggregates.as_slice(),
         head.name.at,
         frame.locals.as_slice(),
+        &mut faults,
+    )?;
+    ask_types(
+        env.aggregates.as_slice(),
+        head.name.at,
+        frame.locals.as_slice(),
+        p.types.as_slice(),
         &mut faults,
     )?;
     Ok(faults)
