@@ -8,4 +8,4 @@ mod environment;
 mod types;
 
 pub use environment::environment_holds;
-pub use types::{is_sound, is_stored, types_hold};
+pub use types::{are_sound, is_sound, is_stored, types_hold};

@@ -95,7 +95,8 @@ pub fn is_stored(rows: &[Aggregate], ty: &Ty) -> bool
     is_sound(rows, ty) && is_complete(rows, ty)
 }
 
-pub(crate) fn are_sound(rows: &[Aggregate], tys: &[Ty]) -> bool
+/// Whether each of these is sound.
+pub fn are_sound(rows: &[Aggregate], tys: &[Ty]) -> bool
     requires { IsLaidOut rows.now }
     ensures { result ≡ list_all (well.is_sound rows.now) tys.now }
 {

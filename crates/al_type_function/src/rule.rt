@@ -7,7 +7,7 @@ ghost use Rattle.al_type_function.specs.Locals as spec;
 use al_base::{NoMemory, Place};
 use al_items::Items;
 use al_rules::{TypeFault, ask};
-use al_sound_types::types_hold;
+use al_sound_types::{is_sound, types_hold};
 use al_typed::{Aggregate, Local, Ty, in_order};
 use std::alloc::Global;
 
@@ -77,4 +77,17 @@ pub(crate) fn ask_types(
     ensures { OnOk result (faults.new ≡ faults.old ++ spec.types_faults rows.now at locals.now written.now) }
 {
     ask(faults, 18, at, types_hold(rows, locals, written))
+}
+
+/// Asks whether the function at a place may return that type.
+pub(crate) fn ask_result(
+    rows: &[Aggregate],
+    at: Place,
+    returns: &Ty,
+    faults: &mut Items<TypeFault>,
+) -> Result<(), NoMemory>
+    requires { IsLaidOut rows.now }
+    ensures { OnOk result (faults.new ≡ faults.old ++ spec.result_faults rows.now at returns.now) }
+{
+    ask(faults, 18, at, is_sound(rows, returns))
 }
