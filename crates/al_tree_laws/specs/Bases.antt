@@ -1,5 +1,5 @@
 -- The base type of a declaration is no array: the bounds of arrays stand behind the name that is declared.
-use Rattle.std.specs.Prelude.{◌≡◌, ℕ, Bool, true, false, ◌&&◌, Option, Some, None}
+use Rattle.std.specs.Prelude.{◌≡◌, ℕ, Bool, true, false, ◌&&◌, List, Option, Some, None}
 use Rattle.std.specs.List.{list_all}
 use Rattle.al_lex.specs.TokenList.{TokenList}
 use Rattle.al_tree.specs.Tree.{IsTree}

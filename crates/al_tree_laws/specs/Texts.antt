@@ -1,5 +1,5 @@
 -- The string constants and the globals of a tree are no more than tokens, and no string constant is longer than the text.
-use Rattle.std.specs.Prelude.{◌≡◌, ℕ, ◌+◌, ◌<◌, nat_le, Bool, true, List, [], ◌∷◌, ◌++◌, length, flat_map, sum_by, Option, Some, None}
+use Rattle.std.specs.Prelude.{◌≡◌, ℕ, ◌<◌, nat_le, Bool, true, List, [], ◌∷◌, ◌++◌, length, flat_map, sum_by, Option, Some, None}
 use Rattle.std.specs.List.{list_all}
 use Rattle.al_lex.specs.TokenList.{TokenList}
 use Rattle.al_tree.specs.Tree.{IsTree}
