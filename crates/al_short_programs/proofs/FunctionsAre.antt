@@ -1,9 +1,9 @@
 -- A function of a program has no string constants but those of its body.
-use Rattle.std.proofs.Common.{◌≡◌, ℕ, List, map, refl, sym, ap, ◌∙◌}
+use Rattle.std.proofs.Common.{◌≡◌, ℕ, List, map, sym, ap, ◌∙◌}
 use Rattle.al_tree.specs.declared.type_tree.TypeTree.{TypeTree}
 use Rattle.al_tree.specs.declared.statement.Stmt.{Stmt}
 use Rattle.al_tree.specs.declared.item.Head.{Head}
-use Rattle.al_rules.specs.Outcome.{Outcome, Good, Bad, pair, both}
+use Rattle.al_rules.specs.Outcome.{Outcome, Good, Bad, pair}
 use Rattle.al_flow.specs.Flow.{targets}
 use Rattle.al_environment.specs.declared.numbered.Numbered.{Numbered}
 use Rattle.al_environment.specs.declared.environment.Environment.{Environment}

@@ -1,5 +1,5 @@
 -- The functions of a program have no string constants but those of the bodies of the items that define them.
-use Rattle.std.proofs.Common.{◌≡◌, ℕ, ◌+◌, ◌≤◌, true, List, [], ◌∷◌, ◌++◌, length, map, flat_map, slice_get, Option, Some, None, refl, sym, ap, ◌∙◌, subst, arith, length-append, append_assoc}
+use Rattle.std.proofs.Common.{◌≡◌, ℕ, ◌+◌, true, List, [], ◌∷◌, ◌++◌, map, flat_map, slice_get, Option, Some, None, refl, sym, ◌∙◌, subst, arith, length-append}
 use Rattle.std.specs.List.{list_all}
 use Rattle.std.proofs.lemmas.List.Folds.{list_all-map}
 use Rattle.std.proofs.lemmas.List.{length-map}
@@ -9,11 +9,10 @@ use Rattle.al_tree.specs.declared.item.Head.{Head}
 use Rattle.al_tree.specs.declared.item.Item.{Item}
 use Rattle.al_tree.specs.declared.item.Item.TheVariants as item
 use Rattle.al_tree.specs.declared.item.Tree.{Tree}
-use Rattle.al_rules.specs.Outcome.{Good, and_then}
+use Rattle.al_rules.specs.Outcome.{Good}
 use Rattle.al_environment.specs.declared.numbered.Numbered.{Numbered}
 use Rattle.al_environment.specs.declared.environment.Environment.{Environment}
 use Rattle.al_environment.specs.declared.environment.Here.{Here}
-use Rattle.al_body_parts.specs.Parts.{nothing}
 use Rattle.al_body_parts.specs.Statements.{parts}
 use Rattle.al_declare.specs.declared.function.Defined.{Defined}
 use Rattle.al_type_function.specs.declared.numbers.FunctionNumbers.{FunctionNumbers}
@@ -27,7 +26,7 @@ use Rattle.al_bodies.specs.Bodies.{bodies, completed}
 use Rattle.al_tree_laws.specs.Texts.{Texts, body_texts, is_short, statement_texts}
 use Rattle.al_short_programs.specs.Unnamed.{Gathered}
 use Rattle.al_short_programs.proofs.Outcomes.{good_is, and_then_good}
-use Rattle.al_short_programs.proofs.PartsAre.{Adds, parts_grow}
+use Rattle.al_short_programs.proofs.PartsAre.{parts_grow}
 use Rattle.al_short_programs.proofs.FunctionsAre.{function_texts}
 use Rattle.al_short_programs.proofs.Lists.{Grows, both_short, grows, one_short, stays}
 
@@ -46,7 +45,7 @@ module _ (n : ℕ) (env : Environment) (names : List (List ℕ)) where
       let a = parts_grow n env here body in
       let ts = (parts env here body).texts in
       record {
-        count = omega (arith, a.count, length-append xs (map bytes_in ts), length-map bytes_in ts);
+        count = omega (arith, a.count, length-append xs (map bytes_in ts), length-map ts bytes_in);
         short = λ h k. both_short n xs (map bytes_in ts) h (list_all-map (is_short n) bytes_in ts ∙ a.short refl k);
       }
 

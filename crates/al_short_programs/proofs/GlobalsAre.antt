@@ -1,5 +1,5 @@
 -- An environment has no more globals than its text declares.
-use Rattle.std.proofs.Common.{◌≡◌, ℕ, ◌+◌, ◌≤◌, nat_lt, Bool, true, false, if◌then◌else◌, List, [], ◌∷◌, ◌++◌, length, fold, sum_by, Option, Some, None, is_some, refl, sym, ap, ◌∙◌, arith, length-append, length-set, slice_set}
+use Rattle.std.proofs.Common.{◌≡◌, ℕ, ◌+◌, ◌≤◌, nat_lt, Bool, true, false, if◌then◌else◌, List, [], ◌∷◌, ◌++◌, length, fold, sum_by, Option, Some, None, is_some, refl, sym, ap, arith, length-append, length-set, slice_set}
 use Rattle.std.proofs.lemmas.List.Sums.{sum_by-cons}
 use Rattle.al_tree.specs.declared.type_tree.TypeTree.{TypeTree}
 use Rattle.al_tree.specs.declared.type_tree.Dcl.{Dcl}
@@ -22,7 +22,7 @@ use Rattle.al_environment.specs.declared.environment.Signature.{Signature}
 use Rattle.al_environment.specs.Written.{written}
 use Rattle.al_type_rules.specs.Types.{known, declared, signature, signature_faults, variable_faults}
 use Rattle.al_globals.specs.declared.found.Found.{Found}
-use Rattle.al_globals.specs.Globals.{begun, function_in, global_in, globals, is_private_word, judged, numbered, outside, put, rule_of, with_dcl, with_declarator, with_faults, with_global, with_global_if, with_head, with_item, with_main, with_owner, with_plain_head, with_signature_if, with_type}
+use Rattle.al_globals.specs.Globals.{begun, function_in, global_in, globals, is_private_word, numbered, outside, put, rule_of, with_dcl, with_declarator, with_faults, with_global, with_global_if, with_item, with_main, with_owner, with_plain_head, with_signature_if, with_type}
 use Rattle.al_globals.specs.Numbers.{numbers}
 use Rattle.al_declare.specs.Functions.{functions}
 use Rattle.al_form.specs.Forms.{forms}

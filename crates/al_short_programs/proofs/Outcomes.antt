@@ -1,7 +1,7 @@
 -- What is good has good parts.
 use Rattle.std.proofs.Common.{◌≡◌, List, [], ◌∷◌, refl}
 use Rattle.al_rules.specs.declared.fault.TypeFault.{TypeFault}
-use Rattle.al_rules.specs.Outcome.{Outcome, Good, Bad, judge, and_then, both, pair}
+use Rattle.al_rules.specs.Outcome.{Outcome, Good, Bad, judge, and_then}
 
 pub good_is : {A : Type 0} (a b : A) → Good a ≡ Good b → a ≡ b
 good_is a b h = cc

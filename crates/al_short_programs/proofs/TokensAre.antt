@@ -1,10 +1,10 @@
 -- A text has no more tokens than bytes, and the End token.
-use Rattle.std.proofs.Common.{◌≡◌, ℕ, ◌+◌, ◌≤◌, List, [], ◌∷◌, ◌++◌, length, ap, arith, length-append}
+use Rattle.std.proofs.Common.{ℕ, ◌+◌, ◌≤◌, List, [], ◌∷◌, ◌++◌, length, ap, arith, length-append}
 use Rattle.al_lex.specs.declared.kind.PieceKind.{PieceKind}
 use Rattle.al_lex.specs.declared.kind.PieceKind.TheVariants as p
 use Rattle.al_lex.specs.declared.token.Token.{Token}
-use Rattle.al_lex.specs.Cut.{Piece, Pieces, IsNext, joined, is_fresh, none, next}
-use Rattle.al_lex.specs.Written.{IsCutInto, tokens_from, tokens_of, first_seen, names_of, end_token}
+use Rattle.al_lex.specs.Cut.{Piece, Pieces, joined, none, next}
+use Rattle.al_lex.specs.Written.{IsCutInto, tokens_from, first_seen, names_of, end_token}
 use Rattle.al_lex.proofs.Scanned.{some_byte}
 
 one_more : (names : List (List ℕ)) (b u : List ℕ) (kind : PieceKind) (more : List Piece) → 1 ≤ length u → length (tokens_from names (b ++ u) more) ≤ length (joined more)

@@ -1,6 +1,5 @@
 -- Types that other crates do not export by name: they are those of values.
 use Rattle.al_bodies.specs.Gathering.{none}
-use Rattle.al_rules.specs.Outcome.{Outcome}
 
 abbrev pub TypeOf : (A : Type 0) → A → Type 0
 TypeOf A x = A
