@@ -86,7 +86,7 @@ initials_grow n env tree i is =
     }
 
 module _ (tokens : TokenList) (tree : Tree) (height : ℕ) (read : IsTree tokens tree height) (few : length tokens.list ≤ length tokens.text + 1) (short : length tokens.text ≤ 2 ^ 20)
-  (is : List Instance) (p : Program) (within : length is ≤ 256) (c : IsChecked tree is p) where
+    (is : List Instance) (p : Program) (within : length is ≤ 256) (c : IsChecked tree is p) where
   abbrev n : ℕ
   n = length tokens.text
 
@@ -103,8 +103,18 @@ module _ (tokens : TokenList) (tree : Tree) (height : ℕ) (read : IsTree tokens
   few_globals = omega (arith, ap length c.globals, I.globals, globals_count tree is c.scopes c.env c.env_is, texts_are_few.globals tokens tree height read, few, short)
 
   pub few_texts : length p.strings ≤ 2 ^ 28
-  few_texts = omega (arith, ap length c.strings, length-append c.initials.texts c.bodies.texts, given.count, found.count, functions_count tree.items is within,
-      two_count global_texts body_texts tree.items, texts_are_few.texts tokens tree height read, few, short)
+  few_texts = omega (
+    arith,
+    ap length c.strings,
+    length-append c.initials.texts c.bodies.texts,
+    given.count,
+    found.count,
+    functions_count tree.items is within,
+    two_count global_texts body_texts tree.items,
+    texts_are_few.texts tokens tree height read,
+    few,
+    short,
+  )
 
   pub small_texts : All (λ (s : List ℕ). length s + 1 < 2 ^ 32) p.strings
   small_texts =
