@@ -37,5 +37,5 @@ function_texts env names numbers branches base head body t h =
     let s = signature env here base head.stars head.parameters in
     let p = parts env here body in
     let f = function_frame env names head body s p in
-    let w = judge_good (faults_of env head p f) (opened_with names numbers head here.own s.returns p f) o is in
+    let w = judge_good (faults_of env head s.returns p f) (opened_with names numbers head here.own s.returns p f) o is in
     (here, sym (ap (λ (x : TypedFunction). x.texts) e) ∙ sym (ap (λ x. x.texts) w))

@@ -27,7 +27,7 @@ use Rattle.al_globals.specs.Numbers.{numbers}
 use Rattle.al_declare.specs.Functions.{functions}
 use Rattle.al_form.specs.Forms.{forms}
 use Rattle.al_layout.specs.Rows.{laid_out}
-use Rattle.al_build_environment.specs.Whole.{environment, globals_of, laid_whole, named, names_of, types_of, whole, with_names}
+use Rattle.al_build_environment.specs.Whole.{checked, environment, globals_of, laid_whole, named, names_of, types_faults, types_of, whole, with_names}
 use Rattle.al_tree_laws.specs.Texts.{declared_globals, item_globals}
 use Rattle.al_short_programs.proofs.Outcomes.{good_is, and_then_good, judge_good}
 
@@ -109,7 +109,7 @@ found_count env tree ns found h =
     omega (arith, p, q)
 
 pub globals_count : (tree : Tree) (is : List Instance) (scopes : Scopes) (env : Environment) → environment tree is scopes ≡ Good env → length env.globals ≤ sum_by item_globals tree.items
-unfolding environment whole
+unfolding environment whole checked
 globals_count tree is scopes env h =
     let fs = forms tree is in
     let defined = functions tree.items is in
@@ -117,7 +117,8 @@ globals_count tree is scopes env h =
     let first = types_of tree fs scopes a.0 in
     let b = and_then_good (names_of first tree defined fs a.0.forms a.0.numbers) (λ names. and_then (globals_of first tree defined) (named first names)) env a.2 in
     let c = and_then_good (globals_of first tree defined) (named first b.0) env b.2 in
-    let e = good_is (with_names first b.0 c.0) env c.2 in
+    let built = with_names first b.0 c.0 in
+    let e = judge_good (types_faults built) built env c.2 in
     let p : length c.0.globals ≤ sum_by item_globals tree.items = found_count first tree (numbers tree.names tree.items defined) c.0 c.1 in
     let q : length env.globals ≡ length c.0.globals = sym (ap (λ (v : Environment). length v.globals) e) in
     omega (arith, p, q)

@@ -15,7 +15,7 @@ use Rattle.al_environment.specs.declared.environment.Variable.{Variable}
 use Rattle.al_body_parts.specs.declared.parts.Parts.{Parts}
 use Rattle.al_body_parts.specs.Parts.{nothing}
 use Rattle.al_initial.specs.Walks.{Starts, Gathering, each, optional, written_step, written, written_by, written_in}
-use Rattle.al_initial.specs.Whole.{outside, bytes_in, globals_from, gathered, judged, of_written, starts, numbered, whole, initial}
+use Rattle.al_initial.specs.Whole.{outside, bytes_in, globals_from, gathered, judged, of_written, starts, numbered, types_faults, whole, initial}
 use Rattle.al_initial.specs.declared.globals.Initial.{Initial}
 use Rattle.al_tree_laws.specs.Texts.{Texts, joined, initializer_step, initializer_texts, declarator_texts, global_texts}
 use Rattle.al_tree_laws.specs.Texts as tree
@@ -97,8 +97,8 @@ pub record IsInitial (env : Environment) (tree : Tree) (i : Initial) : Type 0 wh
 pub initial_is : (env : Environment) (tree : Tree) (i : Initial) → initial env tree ≡ Good i → IsInitial env tree i
 unfolding initial
 initial_is env tree i h =
-    let a = and_then_good (judged (gathered env tree)) (of_written env tree) i h in
-    let w = judge_good (gathered env tree).faults (record { texts = (gathered env tree).texts; types = (gathered env tree).types }) a.0 a.1 in
+    let a = and_then_good (judged env.aggregates (gathered env tree)) (of_written env tree) i h in
+    let w = judge_good ((gathered env tree).faults ++ types_faults env.aggregates (gathered env tree).types) (record { texts = (gathered env tree).texts; types = (gathered env tree).types }) a.0 a.1 in
     let b = and_then_good (starts env tree (numbered 0 a.0.texts)) (λ s. Good (whole env tree a.0 s)) i a.2 in
     let e = good_is (whole env tree a.0 b.0) i b.2 in
     record {
