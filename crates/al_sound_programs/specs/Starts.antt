@@ -1,0 +1,51 @@
+-- What globals start with: each value stands at a unit of its global, and fits in it.
+use Rattle.std.specs.Prelude.{◌≡◌, ℕ, ◌+◌, ◌<◌, ◌≤◌, ◌^◌, true, All, Bool, Contains, List, length, Some, slice_get}
+use Rattle.al_base.specs.declared.place.Place.{Place}
+use Rattle.al_tree.specs.declared.expression.Expr.{Expr}
+use Rattle.al_tree.specs.declared.item.Initializer.{Initializer}
+use Rattle.al_rules.specs.Outcome.{Good}
+use Rattle.al_typed.specs.declared.ty.Ty.{Ty}
+use Rattle.al_typed.specs.declared.program.Aggregate.{Aggregate}
+use Rattle.al_typed.specs.declared.program.Global.{Global}
+use Rattle.al_typed.specs.declared.program.Program.{Program}
+use Rattle.al_typed.specs.declared.program.StartValue.{StartValue}
+use Rattle.al_typed.specs.declared.expression.TExpr.{TExpr}
+use Rattle.al_typed.specs.Layout.{IsLaidOut, members_of, moved, size_of, unit_at, units_of}
+use Rattle.al_typed.specs.WellTyped.{FitsIn, Starts, is_stored}
+use Rattle.al_environment.specs.declared.environment.Environment.{Environment}
+use Rattle.al_environment.specs.declared.environment.Here.{Here}
+use Rattle.al_operands.specs.declared.operand.Operand.{Operand}
+use Rattle.al_type_expr.specs.Nodes.{value_of}
+use Rattle.al_initial.specs.declared.start.Start.{Start}
+use Rattle.al_initial.specs.Start.{started, text_of, values_at}
+use Rattle.al_initial.specs.Initializers.{initializer}
+
+-- a value at a unit of a part of that type, which stands so many bytes from the front of its global
+abbrev pub StartsIn : Program → Ty → ℕ → StartValue → Type 0
+StartsIn p t offset v = Contains (moved offset (units_of p.aggregates t)) (unit_at v.at v.size) × FitsIn p v.size v.word
+
+abbrev pub AreStarts : Program → Ty → ℕ → List StartValue → Type 0
+AreStarts p t offset = All (StartsIn p t offset)
+
+-- a string constant that starts something is one of the program
+abbrev pub TextIsThere : Program → TExpr → Type 0
+TextIsThere p e = (n : ℕ) → text_of e ≡ Some n → n < length p.strings
+
+-- string constants in values of initializers are those of the program
+abbrev pub TextsAreThere : Program → Environment → Here → Type 0
+TextsAreThere p env here = (e : Expr) (x : Operand) → value_of env here e ≡ Good x → TextIsThere p x.value
+
+-- members of aggregates have the types of values in storage
+abbrev pub MembersAreStored : List Aggregate → Type 0
+MembersAreStored rows = (k : ℕ) (a : Aggregate) → slice_get rows k ≡ Some a → All (λ t. is_stored rows t ≡ true) (members_of (Some a))
+
+pub record StartsAreSound : Type 0 where
+  -- what a value alone starts
+  pub values : (p : Program) (at : Place) (t : Ty) (x : Operand) (s : Start) (offset : ℕ) → TextIsThere p x.value → started p.aggregates at t x ≡ Good s
+      → AreStarts p t offset (values_at offset s)
+  -- an initializer of a part that stands so many bytes from the front of its global, which is no larger than types may be
+  pub initializers : (p : Program) (env : Environment) (here : Here) (adts : List Bool) → env.aggregates ≡ p.aggregates → IsLaidOut p.aggregates
+      → MembersAreStored p.aggregates → TextsAreThere p env here → (i : Initializer) (t : Ty) (offset : ℕ) (vs : List StartValue)
+      → is_stored p.aggregates t ≡ true → offset + size_of p.aggregates t ≤ 2 ^ 28 → initializer env here adts i t offset ≡ Good vs → AreStarts p t offset vs
+  -- of a global itself, at its front
+  pub front : (p : Program) (g : Global) (vs : List StartValue) → AreStarts p g.ty 0 vs → All (Starts p g) vs
