@@ -22,13 +22,12 @@ use Rattle.al_type_function.specs.declared.frame.Frame.{Frame}
 use Rattle.al_type_function.specs.declared.outline.Outline.{Outline}
 use Rattle.al_type_function.specs.declared.site.Site.{Site}
 use Rattle.al_type_function.specs.declared.branch.NumberedBranch.{NumberedBranch}
-use Rattle.al_type_function.specs.Locals.{declared_local, frame_of, locals_faults, rule_18_locals}
-use Rattle.al_type_function.specs.Branches.{Way, branch, branch_frame, branch_outline, branches, each, framed, inner_site, inside, numbered_branch, opened_branch, optional, place, round_of, stmt_step, typed_branch, way}
+use Rattle.al_type_function.specs.Locals.{declared_local, frame_of, locals_faults, rule_18_locals, types_faults}
+use Rattle.al_type_function.specs.Branches.{Way, branch, branch_frame, branch_outline, branches, each, frame_faults, framed, inner_site, inside, numbered_branch, opened_branch, optional, place, round_of, stmt_step, typed_branch, way}
 use Rattle.al_shared.specs.Statements.{shared}
-use Rattle.al_sound_types.specs.Types.{types_hold}
-use Rattle.al_sound_operators.proofs.Outcomes.{and_then_good, if_good, judge_good}
+use Rattle.al_sound_operators.proofs.Outcomes.{and_then_good, if_good}
 use Rattle.al_sound_programs.specs.Functions.{BodiesAreTyped, IsReady, IsSoundRow, among_any}
-use Rattle.al_sound_programs.proofs.Frames.{IsStoredLocal, IsStoredVariable, judged_good, locals_hold, small_of, variables_hold, written_hold}
+use Rattle.al_sound_programs.proofs.Frames.{IsStoredLocal, IsStoredVariable, hold_of, judged_good, locals_hold, none_left, small_of, variables_hold, written_hold}
 
 good_is : {A : Type 0} {a b : A} → Good a ≡ Good b → a ≡ b
 good_is h = cc
@@ -55,22 +54,21 @@ variables_of env names site s h =
     variables_hold env.aggregates names (shared env.scopes.names (length site.around) (length ds) s) 0 ds h
 
 frame_is : (env : Environment) (names : List (List ℕ)) (site : Site) (s : Stmt) (f : Frame) → framed env names site s ≡ Good f → IsFrame env site.here s f × (branch_frame env names site s ≡ f)
-unfolding framed
+unfolding framed branch_frame
 frame_is env names site s f e =
     let b = branch_frame env names site s in
-    let ts = (parts env site.here s).types in
-    let a = and_then_good (judge (locals_faults env.aggregates (place s) b.locals) b) (λ g. judge (ask 18 (place s) (types_hold env.aggregates b.locals ts)) g) f e in
-    let j = judged_good (locals_faults env.aggregates (place s) b.locals) b a.0 a.1 in
-    let k = judge_good 18 (place s) (types_hold env.aggregates b.locals ts) a.0 f a.2 in
-    let same : b ≡ f = j.1 ∙ k.1 in
-    let locals = locals_hold env.aggregates b.locals ts k.0 in
+    let p = parts env site.here s in
+    let j = judged_good (frame_faults env s p b) b f e in
+    let none = none_left (locals_faults env.aggregates (place s) b.locals) (types_faults env.aggregates (place s) b.locals p.types) j.0 in
+    let holds = hold_of env.aggregates (place s) b.locals p.types none.1 in
+    let locals = locals_hold env.aggregates b.locals p.types holds in
     let is : IsFrame env site.here s b = record {
       locals = locals;
       variables = variables_of env names site s locals;
-      small = small_of env.aggregates (place s) b.locals j.0;
-      written = written_hold env.aggregates b.locals ts k.0;
+      small = small_of env.aggregates (place s) b.locals none.0;
+      written = written_hold env.aggregates b.locals p.types holds;
     } in
-    (subst (IsFrame env site.here s) same is, same)
+    (subst (IsFrame env site.here s) j.1 is, j.1)
 
 module _ (env : Environment) (strings functions : ℕ) (bodies : BodiesAreTyped env strings functions) (names : List (List ℕ)) (w : Within)
     (returns : is_sound env.aggregates w.returns ≡ true) where

@@ -17,7 +17,7 @@ use Rattle.al_body_parts.specs.declared.parts.WrittenText.{WrittenText}
 use Rattle.al_type_stmt.specs.Iterators.{numbered_at}
 use Rattle.al_type_function.specs.declared.locals.Declared.{Declared}
 use Rattle.al_type_function.specs.Numbers.{indexed}
-use Rattle.al_type_function.specs.Locals.{local, locals_faults, rule_18_locals, variable}
+use Rattle.al_type_function.specs.Locals.{local, locals_faults, rule_18_locals, types_faults, variable}
 use Rattle.al_type_function.specs.Texts.{numbered}
 use Rattle.al_sound_types.specs.Types.{is_local, types_hold}
 
@@ -30,9 +30,9 @@ pub judged_good : {A : Type 0} (fs : List TypeFault) (a b : A) → judge fs a �
 judged_good [] a b e = (refl, good_is e)
 judged_good (f ∷ fs) a b e = absurd (cc)
 
-pub last_none : (xs ys : List TypeFault) → xs ++ ys ≡ [] → ys ≡ []
-last_none [] ys e = e
-last_none (x ∷ xs) ys e = absurd (cc)
+pub none_left : (xs ys : List TypeFault) → xs ++ ys ≡ [] → (xs ≡ []) × (ys ≡ [])
+none_left [] ys e = (refl, e)
+none_left (x ∷ xs) ys e = absurd (cc)
 
 asked_none : (n : ℕ) (at : Place) (h : Bool) → ask n at h ≡ [] → h ≡ true
 asked_none n at true e = refl
@@ -40,6 +40,9 @@ asked_none n at false e = absurd (cc)
 
 pub small_of : (rows : List Aggregate) (at : Place) (ls : List Local) → locals_faults rows at ls ≡ [] → rule_18_locals rows ls ≡ true
 small_of rows at ls e = asked_none 18 at (rule_18_locals rows ls) e
+
+pub hold_of : (rows : List Aggregate) (at : Place) (ls : List Local) (ts : List Ty) → types_faults rows at ls ts ≡ [] → types_hold rows ls ts ≡ true
+hold_of rows at ls ts e = asked_none 18 at (types_hold rows ls ts) e
 
 -- ---- types
 

@@ -1,6 +1,6 @@
 -- The rows of all functions of a text, and of all branches in them.
 use Rattle.std.proofs.Common.{◌≡◌, inl, inr, ℕ, zero, suc, ◌+◌, ◌≤◌, Bool, true, false, List, [], ◌∷◌, ◌++◌, map, length, Option, Some, None, cond, refl, sym, ap, ◌∙◌, subst, arith, length-append}
-use Rattle.std.specs.Prelude.{All, ◌==◌, ◌&&◌, find, slice_get, option_map, if◌then◌else◌}
+use Rattle.std.specs.Prelude.{All, ⊤, ◌==◌, ◌&&◌, find, slice_get, option_map, if◌then◌else◌}
 use Rattle.std.specs.List.{flat_map, range_with_len}
 use Rattle.std.specs.Option.{option_to_list}
 use Rattle.std.proofs.lemmas.Bool.{and_parts}
@@ -21,21 +21,24 @@ use Rattle.al_declare.specs.declared.function.Defined.{Defined}
 use Rattle.al_declare.specs.Functions.{belongs, defined, defined_if, definitions, functions as functions_of, is_definition, of_instances, same_owner}
 use Rattle.al_typed.specs.Capped.{capped}
 use Rattle.al_typed.specs.declared.program.Function.{Function}
+use Rattle.al_typed.specs.WellTyped.{is_sound}
 use Rattle.al_environment.specs.declared.numbered.Numbered.{Numbered}
 use Rattle.al_environment.specs.declared.environment.Environment.{Environment}
 use Rattle.al_branches.specs.Numbers.{branch_numbers}
 use Rattle.al_type_function.specs.declared.numbers.FunctionNumbers.{FunctionNumbers}
 use Rattle.al_type_function.specs.declared.branch.NumberedBranch.{NumberedBranch}
 use Rattle.al_type_function.specs.declared.function.TypedFunction.{TypedFunction}
+use Rattle.al_adt_functions.specs.Owned.{here_in}
+use Rattle.al_type_function.specs.Own.{own_adt}
 use Rattle.al_type_function.specs.Functions.{function}
 use Rattle.al_bodies.specs.declared.found.Bodies.{Bodies}
 use Rattle.al_bodies.specs.declared.found.Gathered.{Gathered}
 use Rattle.al_bodies.specs.Bodies.{bodies, completed}
-use Rattle.al_bodies.specs.Gathering.{first_of, gathered, next, none, numbers_for, rest_of, with_function, with_head, with_item}
+use Rattle.al_bodies.specs.Gathering.{first_of, gathered, next, none, numbers_for, rest_of, with_function, with_item}
 use Rattle.al_bodies.specs.Placing.{branch_of, by_number, function_of, has_number, in_order}
 use Rattle.al_sound_operators.proofs.Outcomes.{and_then_good}
 use Rattle.al_sound_programs.specs.Functions.{BodiesAreTyped, IsSoundRow}
-use Rattle.al_sound_programs.proofs.FunctionsAre.{IsSoundTyped, function_is}
+use Rattle.al_sound_programs.proofs.FunctionsAre.{IsSoundTyped, function_is, result_of}
 
 good_is : {A : Type 0} {a b : A} → Good a ≡ Good b → a ≡ b
 good_is h = cc
@@ -84,32 +87,38 @@ all_defined items is =
 
 -- ---- one more function
 
+-- what an item that is a function returns is sound, in an instance
+abbrev pub IsSoundResult : Environment → Option ℕ → Item → Type 0
+IsSoundResult env instance (item.Function at scope base head body) = is_sound env.aggregates (result_of env (here_in (own_adt env head.owner instance)) base head) ≡ true
+IsSoundResult env instance _ = ⊤
+
+-- what a definition returns is sound
+abbrev pub HasSoundResult : Environment → List Item → Defined → Type 0
+HasSoundResult env items d = (i : Item) → slice_get items d.item ≡ Some i → IsSoundResult env d.instance i
+
 -- what one more function adds
-record Adds (env : Environment) (names : List (List ℕ)) (texts k : ℕ) (d : Defined) (bs : List Numbered) (g h : Gathered) : Type 0 where
+record Adds (env : Environment) (names : List (List ℕ)) (items : List Item) (texts k : ℕ) (d : Defined) (bs : List Numbered) (g h : Gathered) : Type 0 where
   base : TypeTree
   head : Head
   body : Stmt
   typed : TypedFunction
   is : function env names (numbers_for texts k d g) bs base head body ≡ Good typed
   adds : with_function g typed ≡ h
+  sound : HasSoundResult env items d → is_sound env.aggregates (result_of env (here_in (own_adt env head.owner d.instance)) base head) ≡ true
 
-with_head_adds : (env : Environment) (names : List (List ℕ)) (texts k : ℕ) (d : Defined) (bs : List Numbered) (base : TypeTree) (head : Head) (body : Stmt) (g h : Gathered)
-    → with_head env names (numbers_for texts k d g) bs base head body g ≡ Good h → Adds env names texts k d bs g h
-with_head_adds env names texts k d bs base head body g h e =
-    let a = and_then_good (function env names (numbers_for texts k d g) bs base head body) (λ t. Good (with_function g t)) h e in
-    record { base = base; head = head; body = body; typed = a.0; is = a.1; adds = good_is a.2 }
-
-item_adds : (env : Environment) (names : List (List ℕ)) (texts k : ℕ) (d : Defined) (bs : List Numbered) (i : Item) (g h : Gathered) → is_definition i ≡ true
-    → with_item env names (numbers_for texts k d g) bs (Some i) g ≡ Good h → Adds env names texts k d bs g h
+item_adds : (env : Environment) (names : List (List ℕ)) (items : List Item) (texts k : ℕ) (d : Defined) (bs : List Numbered) (i : Item) (g h : Gathered) → slice_get items d.item ≡ Some i
+    → is_definition i ≡ true → with_item env names (numbers_for texts k d g) bs (Some i) g ≡ Good h → Adds env names items texts k d bs g h
 unfolding is_definition
-item_adds env names texts k d bs (item.Function at scope base head body) g h so e = with_head_adds env names texts k d bs base head body g h e
-item_adds env names texts k d bs _ g h so e = absurd (cc)
+item_adds env names items texts k d bs (item.Function at scope base head body) g h is so e =
+    let a = and_then_good (function env names (numbers_for texts k d g) bs base head body) (λ t. Good (with_function g t)) h e in
+    record { base = base; head = head; body = body; typed = a.0; is = a.1; adds = good_is a.2; sound = λ r. r (item.Function at scope base head body) is }
+item_adds env names items texts k d bs _ g h is so e = absurd (cc)
 
 next_adds : (env : Environment) (names : List (List ℕ)) (items : List Item) (texts k : ℕ) (d : Defined) (bs : List Numbered) (g h : Gathered) → IsDefined items d
-    → next env names items texts k d bs g ≡ Good h → Adds env names texts k d bs g h
+    → next env names items texts k d bs g ≡ Good h → Adds env names items texts k d bs g h
 unfolding next
 next_adds env names items texts k d bs g h is e =
-    item_adds env names texts k d bs is.0 g h is.2 (subst (λ o. with_item env names (numbers_for texts k d g) bs o g ≡ Good h) is.1 e)
+    item_adds env names items texts k d bs is.0 g h is.1 is.2 (subst (λ o. with_item env names (numbers_for texts k d g) bs o g ≡ Good h) is.1 e)
 
 -- ---- all of them
 
@@ -118,8 +127,8 @@ record Counts (n : ℕ) (g h : Gathered) : Type 0 where
   texts : length g.texts ≤ length h.texts
   functions : length g.functions + n ≤ length h.functions
 
-one_counts : (env : Environment) (names : List (List ℕ)) (texts k : ℕ) (d : Defined) (bs : List Numbered) (g h : Gathered) → Adds env names texts k d bs g h → Counts 1 g h
-one_counts env names texts k d bs g h a =
+one_counts : (env : Environment) (names : List (List ℕ)) (items : List Item) (texts k : ℕ) (d : Defined) (bs : List Numbered) (g h : Gathered) → Adds env names items texts k d bs g h → Counts 1 g h
+one_counts env names items texts k d bs g h a =
     subst (Counts 1 g) a.adds (record {
       texts = (let n = length-append g.texts a.typed.texts in omega arith);
       functions = (let n = length-append g.functions (a.typed.function ∷ []) in omega arith);
@@ -131,7 +140,7 @@ unfolding gathered
 all_count env names items texts k [] ns g h are e = subst (Counts 0 g) (good_is e) (record { texts = omega arith; functions = omega arith })
 all_count env names items texts k (d ∷ ds) ns g h are e =
     let a = and_then_good (next env names items texts k d (first_of ns) g) (gathered env names items texts (k + 1) ds (rest_of ns)) h e in
-    let one = one_counts env names texts k d (first_of ns) g a.0 (next_adds env names items texts k d (first_of ns) g a.0 (All-head (IsDefined items) d ds are) a.1) in
+    let one = one_counts env names items texts k d (first_of ns) g a.0 (next_adds env names items texts k d (first_of ns) g a.0 (All-head (IsDefined items) d ds are) a.1) in
     let rest = all_count env names items texts (k + 1) ds (rest_of ns) a.0 h (All-tail (IsDefined items) d ds are) a.2 in
     let few = one.texts in
     let more = rest.texts in
@@ -150,25 +159,25 @@ module _ (env : Environment) (strings functions : ℕ) (law : BodiesAreTyped env
     functions_are : All IsRow g.functions
     branches_are : All IsBranchRow g.branches
 
-  one_row : (names : List (List ℕ)) (texts k : ℕ) (d : Defined) (bs : List Numbered) (g h : Gathered) → Adds env names texts k d bs g h → texts + length h.texts ≤ strings → AreRows g → AreRows h
-  one_row names texts k d bs g h a few are =
+  one_row : (names : List (List ℕ)) (items : List Item) (texts k : ℕ) (d : Defined) (bs : List Numbered) (g h : Gathered) → Adds env names items texts k d bs g h → HasSoundResult env items d → texts + length h.texts ≤ strings → AreRows g → AreRows h
+  one_row names items texts k d bs g h a sound few are =
       let count : length h.texts ≡ length g.texts + length a.typed.texts = ap (λ (x : Gathered). length x.texts) (sym a.adds) ∙ length-append g.texts a.typed.texts in
-      let t = function_is env strings functions law names (numbers_for texts k d g) bs a.base a.head a.body a.typed a.is (omega arith) in
+      let t = function_is env strings functions law names (numbers_for texts k d g) bs a.base a.head a.body a.typed (a.sound sound) a.is (omega arith) in
       subst AreRows a.adds (record {
         functions_are = All-push IsRow g.functions a.typed.function are.functions_are t.function;
         branches_are = All-append IsBranchRow g.branches a.typed.branches are.branches_are t.branches;
       })
 
   all_rows : (names : List (List ℕ)) (items : List Item) (texts k : ℕ) (ds : List Defined) (ns : List (List Numbered)) (g h : Gathered) → All (IsDefined items) ds
-      → texts + length h.texts ≤ strings → AreRows g → gathered env names items texts k ds ns g ≡ Good h → AreRows h
+      → All (HasSoundResult env items) ds → texts + length h.texts ≤ strings → AreRows g → gathered env names items texts k ds ns g ≡ Good h → AreRows h
   unfolding gathered
-  all_rows names items texts k [] ns g h defined few are e = subst AreRows (good_is e) are
-  all_rows names items texts k (d ∷ ds) ns g h defined few are e =
+  all_rows names items texts k [] ns g h defined sound few are e = subst AreRows (good_is e) are
+  all_rows names items texts k (d ∷ ds) ns g h defined sound few are e =
       let a = and_then_good (next env names items texts k d (first_of ns) g) (gathered env names items texts (k + 1) ds (rest_of ns)) h e in
       let rest = All-tail (IsDefined items) d ds defined in
       let grows = (all_count env names items texts (k + 1) ds (rest_of ns) a.0 h rest a.2).texts in
       let one = next_adds env names items texts k d (first_of ns) g a.0 (All-head (IsDefined items) d ds defined) a.1 in
-      all_rows names items texts (k + 1) ds (rest_of ns) a.0 h rest few (one_row names texts k d (first_of ns) g a.0 one (omega arith) are) a.2
+      all_rows names items texts (k + 1) ds (rest_of ns) a.0 h rest (All-tail (HasSoundResult env items) d ds sound) few (one_row names items texts k d (first_of ns) g a.0 one (All-head (HasSoundResult env items) d ds sound) (omega arith) are) a.2
 
   -- ---- branches in the order of their numbers
 
@@ -192,14 +201,14 @@ module _ (env : Environment) (strings functions : ℕ) (law : BodiesAreTyped env
   unfolding in_order
   in_order_rows from bs h = ordered from 0 (length bs) bs h
 
-  pub bodies_are : (tree : Tree) (ds : List Defined) (texts : ℕ) (b : Bodies) → All (IsDefined tree.items) ds → bodies env tree ds texts ≡ Good b
+  pub bodies_are : (tree : Tree) (ds : List Defined) (texts : ℕ) (b : Bodies) → All (IsDefined tree.items) ds → All (HasSoundResult env tree.items) ds → bodies env tree ds texts ≡ Good b
       → texts + length b.texts ≤ strings → All IsRow b.functions
   unfolding bodies
-  bodies_are tree ds texts b defined e few =
+  bodies_are tree ds texts b defined sound e few =
       let a = and_then_good (gathered env tree.names tree.items texts 0 ds (branch_numbers tree.items ds) none) (λ g. Good (completed g)) b e in
       let g : Gathered = a.0 in
       let same : completed g ≡ b = good_is a.2 in
-      let rows = all_rows tree.names tree.items texts 0 ds (branch_numbers tree.items ds) none g defined (subst (λ (x : Bodies). texts + length x.texts ≤ strings) (sym same) few)
+      let rows = all_rows tree.names tree.items texts 0 ds (branch_numbers tree.items ds) none g defined sound (subst (λ (x : Bodies). texts + length x.texts ≤ strings) (sym same) few)
           (record { functions_are = All-nil IsRow; branches_are = All-nil IsBranchRow }) a.1 in
       subst (λ (x : Bodies). All IsRow x.functions) same
       (All-append IsRow g.functions (in_order (length g.functions) g.branches) rows.functions_are (in_order_rows (length g.functions) g.branches rows.branches_are))
