@@ -35,6 +35,7 @@ use Rattle.al_type_function.specs.Branches.{branches, with_body}
 use Rattle.al_type_function.specs.Functions.{bodies, completed, declared, faults_of, function, function_frame, here_of, in_branches, opened, opened_in, opened_with, site_of, typed_with, within_of}
 use Rattle.al_sound_operators.proofs.Outcomes.{and_then_good, if_good}
 use Rattle.al_sound_programs.specs.Functions.{BodiesAreTyped, IsReady, IsSoundRow, among_any}
+use Rattle.al_sound_programs.specs.Programs.{result_of}
 use Rattle.al_sound_programs.proofs.Frames.{IsBelow, IsStoredLocal, IsStoredVariable, hold_of, judged_good, locals_hold, none_left, small_of, texts_below, variables_hold, written_hold}
 use Rattle.al_sound_programs.proofs.BranchesAre.{after_pair, branches_are}
 
@@ -51,10 +52,6 @@ record IsOpened (env : Environment) (numbers : FunctionNumbers) (body : Stmt) (h
   own : here.own ≡ o.own
   texts_at : o.numbered ≡ numbered numbers.texts (parts env here body).texts
   texts : length o.texts ≡ length (parts env here body).texts
-
--- what its own head says that it returns
-abbrev pub result_of : Environment → Here → TypeTree → Head → Ty
-result_of env here base head = (signature env here base head.stars head.parameters).returns
 
 opened_is : (env : Environment) (names : List (List ℕ)) (numbers : FunctionNumbers) (base : TypeTree) (head : Head) (body : Stmt) (here : Here) (o : Opened)
     → is_sound env.aggregates (result_of env here base head) ≡ true → opened_in env names numbers base head body here ≡ Good o → IsOpened env numbers body here o

@@ -38,7 +38,8 @@ use Rattle.al_bodies.specs.Gathering.{first_of, gathered, next, none, numbers_fo
 use Rattle.al_bodies.specs.Placing.{branch_of, by_number, function_of, has_number, in_order}
 use Rattle.al_sound_operators.proofs.Outcomes.{and_then_good}
 use Rattle.al_sound_programs.specs.Functions.{BodiesAreTyped, IsSoundRow}
-use Rattle.al_sound_programs.proofs.FunctionsAre.{IsSoundTyped, function_is, result_of}
+use Rattle.al_sound_programs.specs.Programs.{HasSoundResult, result_of}
+use Rattle.al_sound_programs.proofs.FunctionsAre.{IsSoundTyped, function_is}
 
 good_is : {A : Type 0} {a b : A} → Good a ≡ Good b → a ≡ b
 good_is h = cc
@@ -86,15 +87,6 @@ all_defined items is =
     (definitions_are (names_of items) items None None 0 items (from_first items)) (instances_are (names_of items) items 0 is)
 
 -- ---- one more function
-
--- what an item that is a function returns is sound, in an instance
-abbrev pub IsSoundResult : Environment → Option ℕ → Item → Type 0
-IsSoundResult env instance (item.Function at scope base head body) = is_sound env.aggregates (result_of env (here_in (own_adt env head.owner instance)) base head) ≡ true
-IsSoundResult env instance _ = ⊤
-
--- what a definition returns is sound
-abbrev pub HasSoundResult : Environment → List Item → Defined → Type 0
-HasSoundResult env items d = (i : Item) → slice_get items d.item ≡ Some i → IsSoundResult env d.instance i
 
 -- what one more function adds
 record Adds (env : Environment) (names : List (List ℕ)) (items : List Item) (texts k : ℕ) (d : Defined) (bs : List Numbered) (g h : Gathered) : Type 0 where

@@ -147,7 +147,7 @@ module _ (p : Program) (env : Environment) (here : Here) (marks : List Bool) (sa
       All-cons (IsSoundGlobal p) (global env tree s k v) (globals_from env tree s (k + 1) vs) (global_is tree s k v h here_is)
       (globals_are tree s (k + 1) vs h (λ j u is. subst (λ n. slice_get env.globals n ≡ Some u) (omega arith) (at (suc j) u is)))
 
-each_at : {A : Type 0} (P : A → Type 0) (xs : List A) → All P xs → (k : ℕ) (x : A) → slice_get xs k ≡ Some x → P x
+pub each_at : {A : Type 0} (P : A → Type 0) (xs : List A) → All P xs → (k : ℕ) (x : A) → slice_get xs k ≡ Some x → P x
 each_at P [] h k x e = absurd (cc)
 each_at P (y ∷ xs) h zero x e = subst P (some_is e) (All-head P y xs h)
 each_at P (y ∷ xs) h (suc k) x e = each_at P xs (All-tail P y xs h) k x e
