@@ -29,10 +29,13 @@ use Rattle.al_tree_laws.specs.Unions.{tree_has_members}
 use Rattle.al_sound_nodes.specs.Nodes.{Tells}
 use Rattle.al_sound_environment.specs.Tells.{EnvironmentTells, HasStored}
 use Rattle.al_sound_environment.specs.Whole.{EnvironmentIsSound}
+use Rattle.al_sound_statements.specs.Bodies.{BodiesAreSound}
+use Rattle.al_sound_statements.specs.Gathered.{TypesAreGathered}
 use Rattle.al_sound_operators.proofs.Outcomes.{and_then_good}
 use Rattle.al_sound_programs.specs.Functions.{BodiesAreTyped, IsReady, IsSoundRow, among_any}
 use Rattle.al_sound_programs.specs.Programs.{HasSoundResult, IsAskedToo, ProgramsAreSound}
 use Rattle.al_sound_programs.specs.Starts.{TextsAreThere, item_values, numbered_outside}
+use Rattle.al_sound_programs.proofs.BodiesAre.{bodies_typed}
 use Rattle.al_sound_programs.proofs.Frames.{IsStoredVariable}
 use Rattle.al_sound_programs.proofs.GathersAre.{all_defined, bodies_are, bodies_count}
 use Rattle.al_sound_programs.proofs.GlobalsAre.{each_at, globals_start}
@@ -44,8 +47,8 @@ good_is h = cc
 pub record Laws : Type 0 where
   pub environment : EnvironmentIsSound
   pub tells : EnvironmentTells
-  pub bodies : (env : Environment) (strings functions : ℕ) → ((here : Here) → IsReady env.aggregates strings here → Tells (among_any env.aggregates strings functions) env here)
-      → BodiesAreTyped env strings functions
+  pub bodies : BodiesAreSound
+  pub gathered : TypesAreGathered
 
 -- what a text is checked by, part by part
 record IsChecked (tree : Tree) (is : List Instance) (p : Program) : Type 0 where
@@ -98,7 +101,7 @@ module _ (laws : Laws) (tree : Tree) (is : List Instance) (members : tree_has_me
       let strings = length q.strings in
       let functions = length q.functions in
       let many : length q.strings ≡ length c.first.texts + length c.rows.texts = length-append c.first.texts c.rows.texts in
-      let bodies = laws.bodies env strings functions
+      let bodies = bodies_typed laws.bodies laws.gathered env strings functions
           (λ here r. laws.tells.tells tree is c.scopes env c.scopes_are c.env_is strings functions 0 count here (ready_stored env strings here r)) in
       let rows = bodies_are env strings functions bodies tree (functions_of tree.items is) (length c.first.texts) c.rows defined asked.results c.rows_are (omega arith) in
       record {
