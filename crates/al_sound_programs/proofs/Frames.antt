@@ -77,7 +77,7 @@ variables_hold rows names marks k (d ∷ ds) h =
 abbrev pub IsBelow : ℕ → Numbered → Type 0
 IsBelow most m = m.number < most
 
-first_below : (b : Bool) (most : ℕ) (m : Numbered) → m.number < most → All (IsBelow most) (if b then m ∷ [] else [])
+pub first_below : (b : Bool) (most : ℕ) (m : Numbered) → m.number < most → All (IsBelow most) (if b then m ∷ [] else [])
 first_below true most m h = All-cons (IsBelow most) m [] h (All-nil (IsBelow most))
 first_below false most m h = All-nil (IsBelow most)
 

@@ -2,6 +2,7 @@
 use Rattle.std.proofs.Common.{◌≡◌, inl, inr, ℕ, zero, suc, ◌+◌, ◌^◌, ◌≤◌, Bool, true, List, [], ◌∷◌, ◌++◌, map, length, Option, Some, None, refl, sym, ap, ◌∙◌, subst, arith}
 use Rattle.std.specs.Prelude.{All, ◌⊎◌, fold, slice_get, slice_set, unwrap_or, ⊤}
 use Rattle.std.specs.List.{flat_map}
+use Rattle.std.proofs.lemmas.List.{length-map}
 use Rattle.std.proofs.lemmas.List.Elements.{All-cons, All-head, All-nil, All-tail}
 use Rattle.al_base.specs.declared.place.Place.{Place}
 use Rattle.al_tree.specs.declared.expression.Expr.{Expr}
@@ -32,7 +33,7 @@ use Rattle.al_initial.specs.declared.globals.Initial.{Initial}
 use Rattle.al_initial.specs.Adts.{adts}
 use Rattle.al_initial.specs.Initializers.{initializer}
 use Rattle.al_initial.specs.Walks.{Starts, global_in, global_start, known_start, numbered_start, started_by, started_if, started_in, with_start}
-use Rattle.al_initial.specs.Whole.{gathered, global, globals_from, initial, judged, no_start, numbered, of_written, outside, starts, whole}
+use Rattle.al_initial.specs.Whole.{bytes_in, gathered, global, globals_from, initial, judged, no_start, numbered, of_written, outside, starts, whole}
 use Rattle.al_sound_operators.specs.Typed.{IfGood}
 use Rattle.al_sound_operators.proofs.Outcomes.{and_then_good}
 use Rattle.al_sound_programs.specs.Starts.{AreStarts, MembersAreStored, StartsIn, TextIsThere, TextsAreThere, declared_values, item_values, numbered_outside, values_if, values_in}
@@ -176,3 +177,12 @@ globals_start p env tree i same laid members stored texts e =
     let good : (k : ℕ) (v : Variable) → slice_get env.globals k ≡ Some v → AreStarts p v.ty 0 (at_or [] s k) = subst (λ o. IfGood o (AllStart p env here marks same laid members at)) b.1 all in
     subst (λ (j : Initial). All (IsSoundGlobal p) j.globals) (good_is b.2)
     (globals_are p env here marks same laid members at tree s 0 env.globals good (λ j v is. subst (λ n. slice_get env.globals n ≡ Some v) (omega arith) is))
+
+-- the string constants of initializers
+pub initial_texts : (env : Environment) (tree : Tree) (i : Initial) → initial env tree ≡ Good i → length i.texts ≡ length (gathered env tree).texts
+unfolding initial
+initial_texts env tree i e =
+    let a = and_then_good (judged (gathered env tree)) (of_written env tree) i e in
+    let w : Written = a.0 in
+    let b = and_then_good (starts env tree (numbered 0 w.texts)) (λ s. Good (whole env tree w s)) i a.2 in
+    ap (λ (j : Initial). length j.texts) (sym (good_is b.2)) ∙ length-map w.texts bytes_in ∙ ap length (judged_good (gathered env tree) w a.1)

@@ -32,13 +32,13 @@ use Rattle.al_sound_environment.specs.Whole.{EnvironmentIsSound}
 use Rattle.al_sound_statements.specs.Bodies.{BodiesAreSound}
 use Rattle.al_sound_statements.specs.Gathered.{TypesAreGathered}
 use Rattle.al_sound_operators.proofs.Outcomes.{and_then_good}
-use Rattle.al_sound_programs.specs.Functions.{BodiesAreTyped, IsReady, IsSoundRow, among_any}
+use Rattle.al_sound_programs.specs.Functions.{IsReady, IsSoundRow, ValuesAreTyped, among_any}
 use Rattle.al_sound_programs.specs.Programs.{HasSoundResult, IsAskedToo, ProgramsAreSound}
-use Rattle.al_sound_programs.specs.Starts.{TextsAreThere, item_values, numbered_outside}
 use Rattle.al_sound_programs.proofs.BodiesAre.{bodies_typed}
 use Rattle.al_sound_programs.proofs.Frames.{IsStoredVariable}
 use Rattle.al_sound_programs.proofs.GathersAre.{all_defined, bodies_are, bodies_count}
-use Rattle.al_sound_programs.proofs.GlobalsAre.{each_at, globals_start}
+use Rattle.al_sound_programs.proofs.GlobalsAre.{each_at, globals_start, initial_texts}
+use Rattle.al_sound_programs.proofs.TextsAre.{texts_there}
 
 good_is : {A : Type 0} {a b : A} → Good a ≡ Good b → a ≡ b
 good_is h = cc
@@ -49,6 +49,7 @@ pub record Laws : Type 0 where
   pub tells : EnvironmentTells
   pub bodies : BodiesAreSound
   pub gathered : TypesAreGathered
+  pub values : ValuesAreTyped
 
 -- what a text is checked by, part by part
 record IsChecked (tree : Tree) (is : List Instance) (p : Program) : Type 0 where
@@ -91,7 +92,7 @@ ready_stored env strings here r = record {
 }
 
 module _ (laws : Laws) (tree : Tree) (is : List Instance) (members : tree_has_members tree ≡ true) where
-  of_parts : (p : Program) (c : IsChecked tree is p) → IsAskedToo tree is (program c.env c.first c.rows c.main) c.env → HasSoundTypes (program c.env c.first c.rows c.main)
+  of_parts : (p : Program) (c : IsChecked tree is p) → IsAskedToo tree is c.env → HasSoundTypes (program c.env c.first c.rows c.main)
   of_parts p c asked =
       let env : Environment = c.env in
       let q : Program = program env c.first c.rows c.main in
@@ -101,24 +102,27 @@ module _ (laws : Laws) (tree : Tree) (is : List Instance) (members : tree_has_me
       let strings = length q.strings in
       let functions = length q.functions in
       let many : length q.strings ≡ length c.first.texts + length c.rows.texts = length-append c.first.texts c.rows.texts in
-      let bodies = bodies_typed laws.bodies laws.gathered env strings functions
-          (λ here r. laws.tells.tells tree is c.scopes env c.scopes_are c.env_is strings functions 0 count here (ready_stored env strings here r)) in
+      let tells : (here : Here) → IsReady env.aggregates strings here → Tells (among_any env.aggregates strings functions) env here =
+      λ here r. laws.tells.tells tree is c.scopes env c.scopes_are c.env_is strings functions 0 count here (ready_stored env strings here r) in
+      let bodies = bodies_typed laws.bodies laws.gathered env strings functions tells in
+      let first = initial_texts env tree c.first c.first_is in
+      let texts = texts_there laws.values laws.gathered q env tree functions tells (omega arith) asked.initial_types in
       let rows = bodies_are env strings functions bodies tree (functions_of tree.items is) (length c.first.texts) c.rows defined asked.results c.rows_are (omega arith) in
       record {
         laid_out = sound.laid_out;
         members = sound.members;
         small = sound.small;
         unions = laws.environment.unions tree is c.scopes env members c.env_is;
-        globals = globals_start q env tree c.first refl sound.laid_out sound.members sound.globals asked.texts c.first_is;
+        globals = globals_start q env tree c.first refl sound.laid_out sound.members sound.globals texts c.first_is;
         functions = All-weaker (IsSoundRow env.aggregates strings functions) (IsSoundFunction q)
             (λ f r. record { locals = r.locals; returns = r.returns; shared = r.shared; body = r.body }) c.rows.functions rows;
       }
 
-  program_is : (p : Program) → ((scopes : Scopes) (env : Environment) → resolved tree ≡ Good scopes → environment tree is scopes ≡ Good env → IsAskedToo tree is p env)
+  program_is : (p : Program) → ((scopes : Scopes) (env : Environment) → resolved tree ≡ Good scopes → environment tree is scopes ≡ Good env → IsAskedToo tree is env)
       → check tree is ≡ Good p → HasSoundTypes p
   program_is p asked e =
       let c = is_checked tree is p e in
-      subst HasSoundTypes c.made (of_parts p c (subst (λ (q : Program). IsAskedToo tree is q c.env) (sym c.made) (asked c.scopes c.env c.scopes_are c.env_is)))
+      subst HasSoundTypes c.made (of_parts p c (asked c.scopes c.env c.scopes_are c.env_is))
 
 pub programs_are : Laws → ProgramsAreSound
 programs_are laws = record { sound = λ tree is p members asked e. program_is laws tree is members p asked e }

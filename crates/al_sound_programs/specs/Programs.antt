@@ -1,6 +1,6 @@
 -- The program of a text that the typing rules accept has sound types.
 use Rattle.std.specs.Prelude.{◌≡◌, ℕ, true, All, List, Option, Some, slice_get, ⊤}
-use Rattle.std.specs.List.{flat_map}
+use Rattle.std.specs.List.{list_all}
 use Rattle.al_tree.specs.declared.type_tree.TypeTree.{TypeTree}
 use Rattle.al_tree.specs.declared.item.Head.{Head}
 use Rattle.al_tree.specs.declared.item.Item.{Item}
@@ -21,10 +21,10 @@ use Rattle.al_environment.specs.declared.environment.Here.{Here}
 use Rattle.al_type_rules.specs.Types.{signature}
 use Rattle.al_adt_functions.specs.Owned.{here_in}
 use Rattle.al_build_environment.specs.Whole.{environment}
+use Rattle.al_initial.specs.Whole.{gathered}
 use Rattle.al_type_function.specs.Own.{own_adt}
 use Rattle.al_check.specs.Checked.{check}
 use Rattle.al_tree_laws.specs.Unions.{tree_has_members}
-use Rattle.al_sound_programs.specs.Starts.{TextsAreThere, item_values, numbered_outside}
 
 -- what its own head says that a function returns
 abbrev pub result_of : Environment → Here → TypeTree → Head → Ty
@@ -39,12 +39,12 @@ IsSoundResult env instance _ = ⊤
 abbrev pub HasSoundResult : Environment → List Item → Defined → Type 0
 HasSoundResult env items d = (i : Item) → slice_get items d.item ≡ Some i → IsSoundResult env d.instance i
 
--- what is not asked of types as wholes: results of definitions, and that string constants which globals start with are those of the program
-pub record IsAskedToo (tree : Tree) (is : List Instance) (p : Program) (env : Environment) : Type 0 where
+-- what is not asked of types as wholes: the results of definitions, and what initializers write
+pub record IsAskedToo (tree : Tree) (is : List Instance) (env : Environment) : Type 0 where
   pub results : All (HasSoundResult env tree.items) (functions_of tree.items is)
-  pub texts : TextsAreThere p env (numbered_outside env tree) (flat_map item_values tree.items)
+  pub initial_types : list_all (is_sound env.aggregates) (gathered env tree).types ≡ true
 
 pub record ProgramsAreSound : Type 0 where
   pub sound : (tree : Tree) (is : List Instance) (p : Program) → tree_has_members tree ≡ true
-      → ((scopes : Scopes) (env : Environment) → resolved tree ≡ Good scopes → environment tree is scopes ≡ Good env → IsAskedToo tree is p env)
+      → ((scopes : Scopes) (env : Environment) → resolved tree ≡ Good scopes → environment tree is scopes ≡ Good env → IsAskedToo tree is env)
       → check tree is ≡ Good p → HasSoundTypes p
