@@ -17,7 +17,7 @@ use Rattle.al_body_parts.specs.declared.parts.WrittenText.{WrittenText}
 use Rattle.al_type_stmt.specs.Iterators.{numbered_at}
 use Rattle.al_type_function.specs.declared.locals.Declared.{Declared}
 use Rattle.al_type_function.specs.Numbers.{indexed}
-use Rattle.al_type_function.specs.Locals.{local, locals_faults, rule_18_locals, types_faults, variable}
+use Rattle.al_type_function.specs.Locals.{local, locals_faults, result_faults, rule_18_locals, types_faults, variable}
 use Rattle.al_type_function.specs.Texts.{numbered}
 use Rattle.al_sound_types.specs.Types.{is_local, types_hold}
 
@@ -34,7 +34,7 @@ pub none_left : (xs ys : List TypeFault) → xs ++ ys ≡ [] → (xs ≡ []) × 
 none_left [] ys e = (refl, e)
 none_left (x ∷ xs) ys e = absurd (cc)
 
-asked_none : (n : ℕ) (at : Place) (h : Bool) → ask n at h ≡ [] → h ≡ true
+pub asked_none : (n : ℕ) (at : Place) (h : Bool) → ask n at h ≡ [] → h ≡ true
 asked_none n at true e = refl
 asked_none n at false e = absurd (cc)
 
@@ -43,6 +43,9 @@ small_of rows at ls e = asked_none 18 at (rule_18_locals rows ls) e
 
 pub hold_of : (rows : List Aggregate) (at : Place) (ls : List Local) (ts : List Ty) → types_faults rows at ls ts ≡ [] → types_hold rows ls ts ≡ true
 hold_of rows at ls ts e = asked_none 18 at (types_hold rows ls ts) e
+
+pub result_of : (rows : List Aggregate) (at : Place) (returns : Ty) → result_faults rows at returns ≡ [] → is_sound rows returns ≡ true
+result_of rows at returns e = asked_none 18 at (is_sound rows returns) e
 
 -- ---- types
 

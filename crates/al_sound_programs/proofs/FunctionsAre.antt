@@ -29,14 +29,13 @@ use Rattle.al_type_function.specs.declared.branch.NumberedBranch.{NumberedBranch
 use Rattle.al_type_function.specs.declared.opened.Opened.{Opened}
 use Rattle.al_type_function.specs.declared.function.TypedFunction.{TypedFunction}
 use Rattle.al_type_function.specs.Own.{own_adt}
-use Rattle.al_type_function.specs.Locals.{frame_of, locals_faults, rule_18_locals, types_faults}
+use Rattle.al_type_function.specs.Locals.{frame_of, locals_faults, result_faults, rule_18_locals, types_faults}
 use Rattle.al_type_function.specs.Texts.{bytes_in, numbered}
 use Rattle.al_type_function.specs.Branches.{branches, with_body}
 use Rattle.al_type_function.specs.Functions.{bodies, completed, declared, faults_of, function, function_frame, here_of, in_branches, opened, opened_in, opened_with, site_of, typed_with, within_of}
 use Rattle.al_sound_operators.proofs.Outcomes.{and_then_good, if_good}
 use Rattle.al_sound_programs.specs.Functions.{BodiesAreTyped, IsReady, IsSoundRow, among_any}
-use Rattle.al_sound_programs.specs.Programs.{result_of}
-use Rattle.al_sound_programs.proofs.Frames.{IsBelow, IsStoredLocal, IsStoredVariable, hold_of, judged_good, locals_hold, none_left, small_of, texts_below, variables_hold, written_hold}
+use Rattle.al_sound_programs.proofs.Frames.{IsBelow, IsStoredLocal, IsStoredVariable, hold_of, judged_good, locals_hold, none_left, result_of, small_of, texts_below, variables_hold, written_hold}
 use Rattle.al_sound_programs.proofs.BranchesAre.{after_pair, branches_are}
 
 good_is : {A : Type 0} {a b : A} → Good a ≡ Good b → a ≡ b
@@ -54,26 +53,30 @@ record IsOpened (env : Environment) (numbers : FunctionNumbers) (body : Stmt) (h
   texts : length o.texts ≡ length (parts env here body).texts
 
 opened_is : (env : Environment) (names : List (List ℕ)) (numbers : FunctionNumbers) (base : TypeTree) (head : Head) (body : Stmt) (here : Here) (o : Opened)
-    → is_sound env.aggregates (result_of env here base head) ≡ true → opened_in env names numbers base head body here ≡ Good o → IsOpened env numbers body here o
+    → opened_in env names numbers base head body here ≡ Good o → IsOpened env numbers body here o
 unfolding opened_in opened_with frame_of
-opened_is env names numbers base head body here o sound e =
+opened_is env names numbers base head body here o e =
     let rows = env.aggregates in
     let s = signature env here base head.stars head.parameters in
     let p = parts env here body in
     let f = function_frame env names head body s p in
     let made = opened_with names numbers head here.own s.returns p f in
     let at = head.name.at in
-    let j = judged_good (faults_of env head p f) made o e in
-    let behind = none_left p.faults (locals_faults rows at f.locals ++ types_faults rows at f.locals p.types) j.0 in
-    let none = none_left (locals_faults rows at f.locals) (types_faults rows at f.locals p.types) behind.1 in
-    let holds = hold_of rows at f.locals p.types none.1 in
+    let locals_asked = locals_faults rows at f.locals in
+    let types_asked = types_faults rows at f.locals p.types in
+    let result_asked = result_faults rows at s.returns in
+    let j = judged_good (faults_of env head s.returns p f) made o e in
+    let behind = none_left p.faults (locals_asked ++ (types_asked ++ result_asked)) j.0 in
+    let none = none_left locals_asked (types_asked ++ result_asked) behind.1 in
+    let last = none_left types_asked result_asked none.1 in
+    let holds = hold_of rows at f.locals p.types last.0 in
     let locals = locals_hold rows f.locals p.types holds in
     let ds = declared head s p in
     subst (IsOpened env numbers body here) j.1 (record {
       locals = locals;
       variables = variables_hold rows names (shared env.scopes.names 0 (length ds) body) 0 ds locals;
       small = small_of rows at f.locals none.0;
-      returns = sound;
+      returns = result_of rows at s.returns last.1;
       written = written_hold rows f.locals p.types holds;
       own = refl;
       texts_at = refl;
@@ -98,10 +101,9 @@ module _ (env : Environment) (strings functions : ℕ) (law : BodiesAreTyped env
   }
 
   pub function_is : (names : List (List ℕ)) (numbers : FunctionNumbers) (bs : List Numbered) (base : TypeTree) (head : Head) (body : Stmt) (t : TypedFunction)
-      → is_sound env.aggregates (result_of env (here_in (own_adt env head.owner numbers.instance)) base head) ≡ true
       → function env names numbers bs base head body ≡ Good t → numbers.texts + length t.texts ≤ strings → IsSoundTyped env strings functions t
   unfolding function completed bodies
-  function_is names numbers bs base head body t sound e few =
+  function_is names numbers bs base head body t e few =
       let a = after_pair (opened env names numbers base head body) (targets body) (λ p. completed env names numbers.number bs body p.0 p.1) t e in
       let o : Opened = a.0 in
       let w = within_of o a.1 bs in
@@ -109,7 +111,7 @@ module _ (env : Environment) (strings functions : ℕ) (law : BodiesAreTyped env
       let c = after_pair (statement w env here body) (branches env names (in_branches w) body (site_of here numbers.number) []) (λ p. Good (typed_with o p)) t a.4 in
       let made : typed_with o (c.0, c.1) ≡ t = good_is c.4 in
       let at : Here = here_in (own_adt env head.owner numbers.instance) in
-      let is = opened_is env names numbers base head body at o sound a.2 in
+      let is = opened_is env names numbers base head body at o a.2 in
       let ready = body_ready numbers body at o is (subst (λ (u : TypedFunction). numbers.texts + length u.texts ≤ strings) (sym made) few) in
       let typed = law w here at body ready is.own is.returns is.written in
       subst (IsSoundTyped env strings functions) made (record {

@@ -38,7 +38,6 @@ use Rattle.al_bodies.specs.Gathering.{first_of, gathered, next, none, numbers_fo
 use Rattle.al_bodies.specs.Placing.{branch_of, by_number, function_of, has_number, in_order}
 use Rattle.al_sound_operators.proofs.Outcomes.{and_then_good}
 use Rattle.al_sound_programs.specs.Functions.{BodiesAreTyped, IsSoundRow}
-use Rattle.al_sound_programs.specs.Programs.{HasSoundResult, result_of}
 use Rattle.al_sound_programs.proofs.FunctionsAre.{IsSoundTyped, function_is}
 
 good_is : {A : Type 0} {a b : A} → Good a ≡ Good b → a ≡ b
@@ -96,14 +95,13 @@ record Adds (env : Environment) (names : List (List ℕ)) (items : List Item) (t
   typed : TypedFunction
   is : function env names (numbers_for texts k d g) bs base head body ≡ Good typed
   adds : with_function g typed ≡ h
-  sound : HasSoundResult env items d → is_sound env.aggregates (result_of env (here_in (own_adt env head.owner d.instance)) base head) ≡ true
 
 item_adds : (env : Environment) (names : List (List ℕ)) (items : List Item) (texts k : ℕ) (d : Defined) (bs : List Numbered) (i : Item) (g h : Gathered) → slice_get items d.item ≡ Some i
     → is_definition i ≡ true → with_item env names (numbers_for texts k d g) bs (Some i) g ≡ Good h → Adds env names items texts k d bs g h
 unfolding is_definition
 item_adds env names items texts k d bs (item.Function at scope base head body) g h is so e =
     let a = and_then_good (function env names (numbers_for texts k d g) bs base head body) (λ t. Good (with_function g t)) h e in
-    record { base = base; head = head; body = body; typed = a.0; is = a.1; adds = good_is a.2; sound = λ r. r (item.Function at scope base head body) is }
+    record { base = base; head = head; body = body; typed = a.0; is = a.1; adds = good_is a.2 }
 item_adds env names items texts k d bs _ g h is so e = absurd (cc)
 
 next_adds : (env : Environment) (names : List (List ℕ)) (items : List Item) (texts k : ℕ) (d : Defined) (bs : List Numbered) (g h : Gathered) → IsDefined items d
@@ -151,25 +149,25 @@ module _ (env : Environment) (strings functions : ℕ) (law : BodiesAreTyped env
     functions_are : All IsRow g.functions
     branches_are : All IsBranchRow g.branches
 
-  one_row : (names : List (List ℕ)) (items : List Item) (texts k : ℕ) (d : Defined) (bs : List Numbered) (g h : Gathered) → Adds env names items texts k d bs g h → HasSoundResult env items d → texts + length h.texts ≤ strings → AreRows g → AreRows h
-  one_row names items texts k d bs g h a sound few are =
+  one_row : (names : List (List ℕ)) (items : List Item) (texts k : ℕ) (d : Defined) (bs : List Numbered) (g h : Gathered) → Adds env names items texts k d bs g h → texts + length h.texts ≤ strings → AreRows g → AreRows h
+  one_row names items texts k d bs g h a few are =
       let count : length h.texts ≡ length g.texts + length a.typed.texts = ap (λ (x : Gathered). length x.texts) (sym a.adds) ∙ length-append g.texts a.typed.texts in
-      let t = function_is env strings functions law names (numbers_for texts k d g) bs a.base a.head a.body a.typed (a.sound sound) a.is (omega arith) in
+      let t = function_is env strings functions law names (numbers_for texts k d g) bs a.base a.head a.body a.typed a.is (omega arith) in
       subst AreRows a.adds (record {
         functions_are = All-push IsRow g.functions a.typed.function are.functions_are t.function;
         branches_are = All-append IsBranchRow g.branches a.typed.branches are.branches_are t.branches;
       })
 
   all_rows : (names : List (List ℕ)) (items : List Item) (texts k : ℕ) (ds : List Defined) (ns : List (List Numbered)) (g h : Gathered) → All (IsDefined items) ds
-      → All (HasSoundResult env items) ds → texts + length h.texts ≤ strings → AreRows g → gathered env names items texts k ds ns g ≡ Good h → AreRows h
+      → texts + length h.texts ≤ strings → AreRows g → gathered env names items texts k ds ns g ≡ Good h → AreRows h
   unfolding gathered
-  all_rows names items texts k [] ns g h defined sound few are e = subst AreRows (good_is e) are
-  all_rows names items texts k (d ∷ ds) ns g h defined sound few are e =
+  all_rows names items texts k [] ns g h defined few are e = subst AreRows (good_is e) are
+  all_rows names items texts k (d ∷ ds) ns g h defined few are e =
       let a = and_then_good (next env names items texts k d (first_of ns) g) (gathered env names items texts (k + 1) ds (rest_of ns)) h e in
       let rest = All-tail (IsDefined items) d ds defined in
       let grows = (all_count env names items texts (k + 1) ds (rest_of ns) a.0 h rest a.2).texts in
       let one = next_adds env names items texts k d (first_of ns) g a.0 (All-head (IsDefined items) d ds defined) a.1 in
-      all_rows names items texts (k + 1) ds (rest_of ns) a.0 h rest (All-tail (HasSoundResult env items) d ds sound) few (one_row names items texts k d (first_of ns) g a.0 one (All-head (HasSoundResult env items) d ds sound) (omega arith) are) a.2
+      all_rows names items texts (k + 1) ds (rest_of ns) a.0 h rest few (one_row names items texts k d (first_of ns) g a.0 one (omega arith) are) a.2
 
   -- ---- branches in the order of their numbers
 
@@ -193,14 +191,14 @@ module _ (env : Environment) (strings functions : ℕ) (law : BodiesAreTyped env
   unfolding in_order
   in_order_rows from bs h = ordered from 0 (length bs) bs h
 
-  pub bodies_are : (tree : Tree) (ds : List Defined) (texts : ℕ) (b : Bodies) → All (IsDefined tree.items) ds → All (HasSoundResult env tree.items) ds → bodies env tree ds texts ≡ Good b
+  pub bodies_are : (tree : Tree) (ds : List Defined) (texts : ℕ) (b : Bodies) → All (IsDefined tree.items) ds → bodies env tree ds texts ≡ Good b
       → texts + length b.texts ≤ strings → All IsRow b.functions
   unfolding bodies
-  bodies_are tree ds texts b defined sound e few =
+  bodies_are tree ds texts b defined e few =
       let a = and_then_good (gathered env tree.names tree.items texts 0 ds (branch_numbers tree.items ds) none) (λ g. Good (completed g)) b e in
       let g : Gathered = a.0 in
       let same : completed g ≡ b = good_is a.2 in
-      let rows = all_rows tree.names tree.items texts 0 ds (branch_numbers tree.items ds) none g defined sound (subst (λ (x : Bodies). texts + length x.texts ≤ strings) (sym same) few)
+      let rows = all_rows tree.names tree.items texts 0 ds (branch_numbers tree.items ds) none g defined (subst (λ (x : Bodies). texts + length x.texts ≤ strings) (sym same) few)
           (record { functions_are = All-nil IsRow; branches_are = All-nil IsBranchRow }) a.1 in
       subst (λ (x : Bodies). All IsRow x.functions) same
       (All-append IsRow g.functions (in_order (length g.functions) g.branches) rows.functions_are (in_order_rows (length g.functions) g.branches rows.branches_are))

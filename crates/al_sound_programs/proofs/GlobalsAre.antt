@@ -1,7 +1,7 @@
 -- The globals of a text: each starts with what its initializer gives.
 use Rattle.std.proofs.Common.{◌≡◌, inl, inr, ℕ, zero, suc, ◌+◌, ◌^◌, ◌≤◌, Bool, true, List, [], ◌∷◌, ◌++◌, map, length, Option, Some, None, refl, sym, ap, ◌∙◌, subst, arith}
 use Rattle.std.specs.Prelude.{All, ◌⊎◌, fold, slice_get, slice_set, unwrap_or, ⊤}
-use Rattle.std.specs.List.{flat_map}
+use Rattle.std.specs.List.{flat_map, list_all}
 use Rattle.std.proofs.lemmas.List.{length-map}
 use Rattle.std.proofs.lemmas.List.Elements.{All-cons, All-head, All-nil, All-tail}
 use Rattle.al_base.specs.declared.place.Place.{Place}
@@ -16,12 +16,13 @@ use Rattle.al_rules.specs.declared.fault.TypeFault.{TypeFault}
 use Rattle.al_rules.specs.Outcome.{Outcome, Good, Bad, both, and_then, judge}
 use Rattle.al_scope.specs.Firsts.{declaration_at}
 use Rattle.al_typed.specs.declared.ty.Ty.{Ty}
+use Rattle.al_typed.specs.declared.program.Aggregate.{Aggregate}
 use Rattle.al_typed.specs.declared.program.Global.{Global}
 use Rattle.al_typed.specs.declared.program.Program.{Program}
 use Rattle.al_typed.specs.declared.program.StartValue.{StartValue}
 use Rattle.al_typed.specs.Layout.{IsLaidOut, size_of}
 use Rattle.al_typed.specs.Sound.{IsSoundGlobal}
-use Rattle.al_typed.specs.WellTyped.{Starts as IsStart, is_stored}
+use Rattle.al_typed.specs.WellTyped.{is_sound, is_stored}
 use Rattle.al_environment.specs.declared.environment.Environment.{Environment}
 use Rattle.al_environment.specs.declared.environment.Here.{Here}
 use Rattle.al_environment.specs.declared.environment.Variable.{Variable}
@@ -33,10 +34,11 @@ use Rattle.al_initial.specs.declared.globals.Initial.{Initial}
 use Rattle.al_initial.specs.Adts.{adts}
 use Rattle.al_initial.specs.Initializers.{initializer}
 use Rattle.al_initial.specs.Walks.{Starts, global_in, global_start, known_start, numbered_start, started_by, started_if, started_in, with_start}
-use Rattle.al_initial.specs.Whole.{bytes_in, gathered, global, globals_from, initial, judged, no_start, numbered, of_written, outside, starts, whole}
+use Rattle.al_initial.specs.Whole.{bytes_in, first_place, gathered, global, globals_from, initial, judged, no_start, numbered, of_written, outside, starts, types_faults, whole}
 use Rattle.al_sound_operators.specs.Typed.{IfGood}
 use Rattle.al_sound_operators.proofs.Outcomes.{and_then_good}
 use Rattle.al_sound_programs.specs.Starts.{AreStarts, MembersAreStored, StartsIn, TextIsThere, TextsAreThere, declared_values, item_values, numbered_outside, values_if, values_in}
+use Rattle.al_sound_programs.proofs.Frames.{asked_none, judged_good as faults_judged, none_left}
 use Rattle.al_sound_programs.proofs.InitializersAre.{All-back, All-front, initializers_start}
 use Rattle.al_sound_programs.proofs.SmallTypes.{stored_small}
 use Rattle.al_sound_programs.proofs.StartsAre.{starts_of_global}
@@ -157,21 +159,21 @@ judged_by : (fs : List TypeFault) (v w : Written) → judge fs v ≡ Good w → 
 judged_by [] v w e = ap (λ (x : Written). x.texts) (sym (good_is e))
 judged_by (f ∷ fs) v w e = absurd (cc)
 
-judged_good : (q : Parts) (w : Written) → judged q ≡ Good w → w.texts ≡ q.texts
-judged_good q w e = judged_by q.faults (record { texts = q.texts; types = q.types }) w e
+judged_good : (rows : List Aggregate) (q : Parts) (w : Written) → judged rows q ≡ Good w → w.texts ≡ q.texts
+judged_good rows q w e = judged_by (q.faults ++ types_faults rows q.types) (record { texts = q.texts; types = q.types }) w e
 
 pub globals_start : (p : Program) (env : Environment) (tree : Tree) (i : Initial) → env.aggregates ≡ p.aggregates → IsLaidOut p.aggregates
     → MembersAreStored p.aggregates → All (λ (v : Variable). is_stored p.aggregates v.ty ≡ true) env.globals
     → TextsAreThere p env (numbered_outside env tree) (flat_map item_values tree.items) → initial env tree ≡ Good i → All (IsSoundGlobal p) i.globals
 unfolding initial
 globals_start p env tree i same laid members stored texts e =
-    let a = and_then_good (judged (gathered env tree)) (of_written env tree) i e in
+    let a = and_then_good (judged env.aggregates (gathered env tree)) (of_written env tree) i e in
     let w : Written = a.0 in
     let b = and_then_good (starts env tree (numbered 0 w.texts)) (λ s. Good (whole env tree w s)) i a.2 in
     let s : Starts = b.0 in
     let at : (k : ℕ) (v : Variable) → slice_get env.globals k ≡ Some v → is_stored p.aggregates v.ty ≡ true = each_at (λ (v : Variable). is_stored p.aggregates v.ty ≡ true) env.globals stored in
     let here : Here = outside (numbered 0 w.texts) in
-    let texts_here = subst (λ ts. TextsAreThere p env (outside (numbered 0 ts)) (flat_map item_values tree.items)) (sym (judged_good (gathered env tree) w a.1)) texts in
+    let texts_here = subst (λ ts. TextsAreThere p env (outside (numbered 0 ts)) (flat_map item_values tree.items)) (sym (judged_good env.aggregates (gathered env tree) w a.1)) texts in
     let marks : List Bool = adts env tree.items in
     let all = by_items p env here marks same laid members at tree.items (Good (map no_start env.globals)) texts_here (no_starts p env here marks same laid members at) in
     let good : (k : ℕ) (v : Variable) → slice_get env.globals k ≡ Some v → AreStarts p v.ty 0 (at_or [] s k) = subst (λ o. IfGood o (AllStart p env here marks same laid members at)) b.1 all in
@@ -182,7 +184,17 @@ globals_start p env tree i same laid members stored texts e =
 pub initial_texts : (env : Environment) (tree : Tree) (i : Initial) → initial env tree ≡ Good i → length i.texts ≡ length (gathered env tree).texts
 unfolding initial
 initial_texts env tree i e =
-    let a = and_then_good (judged (gathered env tree)) (of_written env tree) i e in
+    let a = and_then_good (judged env.aggregates (gathered env tree)) (of_written env tree) i e in
     let w : Written = a.0 in
     let b = and_then_good (starts env tree (numbered 0 w.texts)) (λ s. Good (whole env tree w s)) i a.2 in
-    ap (λ (j : Initial). length j.texts) (sym (good_is b.2)) ∙ length-map w.texts bytes_in ∙ ap length (judged_good (gathered env tree) w a.1)
+    ap (λ (j : Initial). length j.texts) (sym (good_is b.2)) ∙ length-map w.texts bytes_in ∙ ap length (judged_good env.aggregates (gathered env tree) w a.1)
+
+-- what initializers write is sound
+pub initial_types : (env : Environment) (tree : Tree) (i : Initial) → initial env tree ≡ Good i → list_all (is_sound env.aggregates) (gathered env tree).types ≡ true
+unfolding initial
+initial_types env tree i e =
+    let q : Parts = gathered env tree in
+    let asked = types_faults env.aggregates q.types in
+    let a = and_then_good (judged env.aggregates q) (of_written env tree) i e in
+    let j = faults_judged (q.faults ++ asked) (record { texts = q.texts; types = q.types }) a.0 a.1 in
+    asked_none 18 first_place (list_all (is_sound env.aggregates) q.types) (none_left q.faults asked j.0).1

@@ -33,11 +33,11 @@ use Rattle.al_sound_statements.specs.Bodies.{BodiesAreSound}
 use Rattle.al_sound_statements.specs.Gathered.{TypesAreGathered}
 use Rattle.al_sound_operators.proofs.Outcomes.{and_then_good}
 use Rattle.al_sound_programs.specs.Functions.{IsReady, IsSoundRow, ValuesAreTyped, among_any}
-use Rattle.al_sound_programs.specs.Programs.{HasSoundResult, IsAskedToo, ProgramsAreSound}
+use Rattle.al_sound_programs.specs.Programs.{ProgramsAreSound}
 use Rattle.al_sound_programs.proofs.BodiesAre.{bodies_typed}
 use Rattle.al_sound_programs.proofs.Frames.{IsStoredVariable}
 use Rattle.al_sound_programs.proofs.GathersAre.{all_defined, bodies_are, bodies_count}
-use Rattle.al_sound_programs.proofs.GlobalsAre.{each_at, globals_start, initial_texts}
+use Rattle.al_sound_programs.proofs.GlobalsAre.{each_at, globals_start, initial_texts, initial_types}
 use Rattle.al_sound_programs.proofs.TextsAre.{texts_there}
 
 good_is : {A : Type 0} {a b : A} → Good a ≡ Good b → a ≡ b
@@ -92,8 +92,8 @@ ready_stored env strings here r = record {
 }
 
 module _ (laws : Laws) (tree : Tree) (is : List Instance) (members : tree_has_members tree ≡ true) where
-  of_parts : (p : Program) (c : IsChecked tree is p) → IsAskedToo tree is c.env → HasSoundTypes (program c.env c.first c.rows c.main)
-  of_parts p c asked =
+  of_parts : (p : Program) (c : IsChecked tree is p) → HasSoundTypes (program c.env c.first c.rows c.main)
+  of_parts p c =
       let env : Environment = c.env in
       let q : Program = program env c.first c.rows c.main in
       let sound = laws.environment.sound tree is c.scopes env c.env_is in
@@ -106,8 +106,8 @@ module _ (laws : Laws) (tree : Tree) (is : List Instance) (members : tree_has_me
       λ here r. laws.tells.tells tree is c.scopes env c.scopes_are c.env_is strings functions 0 count here (ready_stored env strings here r) in
       let bodies = bodies_typed laws.bodies laws.gathered env strings functions tells in
       let first = initial_texts env tree c.first c.first_is in
-      let texts = texts_there laws.values laws.gathered q env tree functions tells (omega arith) asked.initial_types in
-      let rows = bodies_are env strings functions bodies tree (functions_of tree.items is) (length c.first.texts) c.rows defined asked.results c.rows_are (omega arith) in
+      let texts = texts_there laws.values laws.gathered q env tree functions tells (omega arith) (initial_types env tree c.first c.first_is) in
+      let rows = bodies_are env strings functions bodies tree (functions_of tree.items is) (length c.first.texts) c.rows defined c.rows_are (omega arith) in
       record {
         laid_out = sound.laid_out;
         members = sound.members;
@@ -118,11 +118,8 @@ module _ (laws : Laws) (tree : Tree) (is : List Instance) (members : tree_has_me
             (λ f r. record { locals = r.locals; returns = r.returns; shared = r.shared; body = r.body }) c.rows.functions rows;
       }
 
-  program_is : (p : Program) → ((scopes : Scopes) (env : Environment) → resolved tree ≡ Good scopes → environment tree is scopes ≡ Good env → IsAskedToo tree is env)
-      → check tree is ≡ Good p → HasSoundTypes p
-  program_is p asked e =
-      let c = is_checked tree is p e in
-      subst HasSoundTypes c.made (of_parts p c (asked c.scopes c.env c.scopes_are c.env_is))
+  program_is : (p : Program) → check tree is ≡ Good p → HasSoundTypes p
+  program_is p e = let c = is_checked tree is p e in subst HasSoundTypes c.made (of_parts p c)
 
 pub programs_are : Laws → ProgramsAreSound
-programs_are laws = record { sound = λ tree is p members asked e. program_is laws tree is members p asked e }
+programs_are laws = record { sound = λ tree is p members e. program_is laws tree is members p e }
