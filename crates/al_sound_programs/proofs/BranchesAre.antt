@@ -1,14 +1,12 @@
 -- The rows of the branches in a statement.
-use Rattle.std.proofs.Common.{◌≡◌, ℕ, ◌+◌, true, List, [], ◌∷◌, ◌++◌, map, length, Option, Some, None, refl, sym, ap, ◌∙◌, subst}
+use Rattle.std.proofs.Common.{◌≡◌, ℕ, true, List, [], ◌∷◌, ◌++◌, map, length, Some, None, refl, sym, ap, ◌∙◌, subst}
 use Rattle.std.specs.Prelude.{All}
 use Rattle.std.specs.List.{list_all}
 use Rattle.std.proofs.lemmas.List.Elements.{All-push}
-use Rattle.al_tree.specs.declared.statement.Stmt.{Stmt, map-Stmt, para-Stmt, para-roll-Stmt, roll-Stmt}
+use Rattle.al_tree.specs.declared.statement.Stmt.{Stmt, map-Stmt, para-roll-Stmt, roll-Stmt}
 use Rattle.al_tree.specs.declared.statement.Stmt.TheFolds.{ind-Stmt}
 use Rattle.al_tree.specs.declared.statement.Stmt.TheOpen.{Stmt-F}
-use Rattle.al_rules.specs.Outcome.{Outcome, Good, Bad, and_then, ask, judge, pair}
-use Rattle.al_typed.specs.declared.ty.Ty.TheVariants as ty
-use Rattle.al_typed.specs.declared.statement.TStmt.{TStmt}
+use Rattle.al_rules.specs.Outcome.{Outcome, Good, Bad, and_then, pair}
 use Rattle.al_typed.specs.Sound.{outermost}
 use Rattle.al_typed.specs.WellTyped.{IsStatement, is_sound}
 use Rattle.al_environment.specs.declared.environment.Environment.{Environment}

@@ -1,12 +1,12 @@
 -- The parameters and locals of a function or branch, and the numbers of its string constants.
-use Rattle.std.proofs.Common.{◌≡◌, ℕ, suc, ◌+◌, ◌<◌, ◌≤◌, Bool, true, false, ◌&&◌, List, [], ◌∷◌, ◌++◌, length, refl, subst, arith}
+use Rattle.std.proofs.Common.{◌≡◌, ℕ, ◌+◌, ◌<◌, ◌≤◌, Bool, true, false, List, [], ◌∷◌, ◌++◌, length, refl, arith}
 use Rattle.std.specs.Prelude.{All, nat_le, if◌then◌else◌}
 use Rattle.std.specs.List.{list_all}
 use Rattle.std.proofs.lemmas.Bool.{and_parts}
-use Rattle.std.proofs.lemmas.List.Elements.{All-append, All-cons, All-head, All-nil, All-tail, All-weaker}
+use Rattle.std.proofs.lemmas.List.Elements.{All-append, All-cons, All-head, All-nil, All-tail}
 use Rattle.al_base.specs.declared.place.Place.{Place}
 use Rattle.al_rules.specs.declared.fault.TypeFault.{TypeFault}
-use Rattle.al_rules.specs.Outcome.{Outcome, Good, ask, judge}
+use Rattle.al_rules.specs.Outcome.{Good, ask, judge}
 use Rattle.al_typed.specs.declared.program.Aggregate.{Aggregate}
 use Rattle.al_typed.specs.declared.program.Local.{Local}
 use Rattle.al_typed.specs.declared.ty.Ty.{Ty}

@@ -1,5 +1,5 @@
 -- The row of a function of a text, and those of the branches in it.
-use Rattle.std.proofs.Common.{◌≡◌, ℕ, ◌+◌, ◌≤◌, true, List, [], ◌∷◌, ◌++◌, map, length, refl, sym, ap, ◌∙◌, subst, arith}
+use Rattle.std.proofs.Common.{◌≡◌, ℕ, ◌+◌, ◌≤◌, true, List, [], ◌++◌, length, refl, sym, subst, arith}
 use Rattle.std.specs.Prelude.{All}
 use Rattle.std.specs.List.{list_all}
 use Rattle.std.proofs.lemmas.List.{length-map}
@@ -7,11 +7,9 @@ use Rattle.std.proofs.lemmas.List.Elements.{All-nil}
 use Rattle.al_tree.specs.declared.type_tree.TypeTree.{TypeTree}
 use Rattle.al_tree.specs.declared.item.Head.{Head}
 use Rattle.al_tree.specs.declared.statement.Stmt.{Stmt}
-use Rattle.al_rules.specs.Outcome.{Outcome, Good, and_then, ask, judge, pair}
+use Rattle.al_rules.specs.Outcome.{Good}
 use Rattle.al_flow.specs.Flow.{targets}
 use Rattle.al_shared.specs.Statements.{shared}
-use Rattle.al_typed.specs.declared.ty.Ty.{Ty}
-use Rattle.al_typed.specs.declared.program.Function.{Function}
 use Rattle.al_typed.specs.Sound.{outermost}
 use Rattle.al_typed.specs.WellTyped.{IsStatement, is_sound}
 use Rattle.al_environment.specs.declared.environment.Environment.{Environment}
@@ -21,19 +19,17 @@ use Rattle.al_environment.specs.declared.numbered.Numbered.{Numbered}
 use Rattle.al_type_rules.specs.Types.{signature}
 use Rattle.al_adt_functions.specs.Owned.{here_in}
 use Rattle.al_body_parts.specs.Statements.{parts}
-use Rattle.al_type_stmt.specs.declared.within.Within.{Within}
 use Rattle.al_type_stmt.specs.Statements.{statement}
 use Rattle.al_type_function.specs.declared.numbers.FunctionNumbers.{FunctionNumbers}
-use Rattle.al_type_function.specs.declared.frame.Frame.{Frame}
 use Rattle.al_type_function.specs.declared.branch.NumberedBranch.{NumberedBranch}
 use Rattle.al_type_function.specs.declared.opened.Opened.{Opened}
 use Rattle.al_type_function.specs.declared.function.TypedFunction.{TypedFunction}
 use Rattle.al_type_function.specs.Own.{own_adt}
 use Rattle.al_type_function.specs.Locals.{frame_of, locals_faults, result_faults, rule_18_locals, types_faults}
 use Rattle.al_type_function.specs.Texts.{bytes_in, numbered}
-use Rattle.al_type_function.specs.Branches.{branches, with_body}
+use Rattle.al_type_function.specs.Branches.{branches}
 use Rattle.al_type_function.specs.Functions.{bodies, completed, declared, faults_of, function, function_frame, here_of, in_branches, opened, opened_in, opened_with, site_of, typed_with, within_of}
-use Rattle.al_sound_operators.proofs.Outcomes.{and_then_good, if_good}
+use Rattle.al_sound_operators.proofs.Outcomes.{if_good}
 use Rattle.al_sound_programs.specs.Functions.{BodiesAreTyped, IsReady, IsSoundRow, among_any}
 use Rattle.al_sound_programs.proofs.Frames.{IsBelow, IsStoredLocal, IsStoredVariable, hold_of, judged_good, locals_hold, none_left, result_of, small_of, texts_below, variables_hold, written_hold}
 use Rattle.al_sound_programs.proofs.BranchesAre.{after_pair, branches_are}

@@ -1,44 +1,37 @@
 -- The rows of all functions of a text, and of all branches in them.
-use Rattle.std.proofs.Common.{◌≡◌, inl, inr, ℕ, zero, suc, ◌+◌, ◌≤◌, Bool, true, false, List, [], ◌∷◌, ◌++◌, map, length, Option, Some, None, cond, refl, sym, ap, ◌∙◌, subst, arith, length-append}
-use Rattle.std.specs.Prelude.{All, ⊤, ◌==◌, ◌&&◌, find, slice_get, option_map, if◌then◌else◌}
+use Rattle.std.proofs.Common.{◌≡◌, ℕ, zero, suc, ◌+◌, ◌≤◌, Bool, true, false, List, [], ◌∷◌, map, length, Option, Some, None, cond, refl, sym, ap, ◌∙◌, subst, arith, length-append}
+use Rattle.std.specs.Prelude.{All, find, slice_get, option_map}
 use Rattle.std.specs.List.{flat_map, range_with_len}
 use Rattle.std.specs.Option.{option_to_list}
 use Rattle.std.proofs.lemmas.Bool.{and_parts}
 use Rattle.std.proofs.lemmas.List.Elements.{All-append, All-cons, All-head, All-nil, All-push, All-tail}
-use Rattle.al_base.specs.declared.place.Place.{Place}
 use Rattle.al_tree.specs.declared.type_tree.TypeTree.{TypeTree}
 use Rattle.al_tree.specs.declared.statement.Stmt.{Stmt}
 use Rattle.al_tree.specs.declared.item.Head.{Head}
-use Rattle.al_tree.specs.declared.item.Scope.{Scope}
 use Rattle.al_tree.specs.declared.item.Item.{Item}
 use Rattle.al_tree.specs.declared.item.Item.TheVariants as item
 use Rattle.al_tree.specs.declared.item.Tree.{Tree}
-use Rattle.al_rules.specs.Outcome.{Outcome, Good, and_then}
+use Rattle.al_rules.specs.Outcome.{Good}
 use Rattle.al_poly.specs.declared.instance.Instance.{Instance}
 use Rattle.al_poly.specs.declared.names.Names.{Names}
 use Rattle.al_poly.specs.Types.{names_of}
 use Rattle.al_declare.specs.declared.function.Defined.{Defined}
-use Rattle.al_declare.specs.Functions.{belongs, defined, defined_if, definitions, functions as functions_of, is_definition, of_instances, same_owner}
-use Rattle.al_typed.specs.Capped.{capped}
+use Rattle.al_declare.specs.Functions.{belongs, defined, defined_if, definitions, functions as functions_of, is_definition, of_instances}
 use Rattle.al_typed.specs.declared.program.Function.{Function}
-use Rattle.al_typed.specs.WellTyped.{is_sound}
 use Rattle.al_environment.specs.declared.numbered.Numbered.{Numbered}
 use Rattle.al_environment.specs.declared.environment.Environment.{Environment}
 use Rattle.al_branches.specs.Numbers.{branch_numbers}
-use Rattle.al_type_function.specs.declared.numbers.FunctionNumbers.{FunctionNumbers}
 use Rattle.al_type_function.specs.declared.branch.NumberedBranch.{NumberedBranch}
 use Rattle.al_type_function.specs.declared.function.TypedFunction.{TypedFunction}
-use Rattle.al_adt_functions.specs.Owned.{here_in}
-use Rattle.al_type_function.specs.Own.{own_adt}
 use Rattle.al_type_function.specs.Functions.{function}
 use Rattle.al_bodies.specs.declared.found.Bodies.{Bodies}
 use Rattle.al_bodies.specs.declared.found.Gathered.{Gathered}
 use Rattle.al_bodies.specs.Bodies.{bodies, completed}
 use Rattle.al_bodies.specs.Gathering.{first_of, gathered, next, none, numbers_for, rest_of, with_function, with_item}
-use Rattle.al_bodies.specs.Placing.{branch_of, by_number, function_of, has_number, in_order}
+use Rattle.al_bodies.specs.Placing.{branch_of, function_of, has_number, in_order}
 use Rattle.al_sound_operators.proofs.Outcomes.{and_then_good}
 use Rattle.al_sound_programs.specs.Functions.{BodiesAreTyped, IsSoundRow}
-use Rattle.al_sound_programs.proofs.FunctionsAre.{IsSoundTyped, function_is}
+use Rattle.al_sound_programs.proofs.FunctionsAre.{function_is}
 
 good_is : {A : Type 0} {a b : A} → Good a ≡ Good b → a ≡ b
 good_is h = cc

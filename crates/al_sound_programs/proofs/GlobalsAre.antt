@@ -1,6 +1,6 @@
 -- The globals of a text: each starts with what its initializer gives.
-use Rattle.std.proofs.Common.{◌≡◌, inl, inr, ℕ, zero, suc, ◌+◌, ◌^◌, ◌≤◌, Bool, true, List, [], ◌∷◌, ◌++◌, map, length, Option, Some, None, refl, sym, ap, ◌∙◌, subst, arith}
-use Rattle.std.specs.Prelude.{All, ◌⊎◌, fold, slice_get, slice_set, unwrap_or, ⊤}
+use Rattle.std.proofs.Common.{◌≡◌, ℕ, zero, suc, ◌+◌, Bool, true, List, [], ◌∷◌, ◌++◌, map, length, Option, Some, None, refl, sym, ap, ◌∙◌, subst, arith}
+use Rattle.std.specs.Prelude.{All, fold, slice_get, slice_set, unwrap_or}
 use Rattle.std.specs.List.{flat_map, list_all}
 use Rattle.std.proofs.lemmas.List.{length-map}
 use Rattle.std.proofs.lemmas.List.Elements.{All-cons, All-head, All-nil, All-tail}
@@ -15,12 +15,10 @@ use Rattle.al_tree.specs.declared.item.Tree.{Tree}
 use Rattle.al_rules.specs.declared.fault.TypeFault.{TypeFault}
 use Rattle.al_rules.specs.Outcome.{Outcome, Good, Bad, both, and_then, judge}
 use Rattle.al_scope.specs.Firsts.{declaration_at}
-use Rattle.al_typed.specs.declared.ty.Ty.{Ty}
 use Rattle.al_typed.specs.declared.program.Aggregate.{Aggregate}
-use Rattle.al_typed.specs.declared.program.Global.{Global}
 use Rattle.al_typed.specs.declared.program.Program.{Program}
 use Rattle.al_typed.specs.declared.program.StartValue.{StartValue}
-use Rattle.al_typed.specs.Layout.{IsLaidOut, size_of}
+use Rattle.al_typed.specs.Layout.{IsLaidOut}
 use Rattle.al_typed.specs.Sound.{IsSoundGlobal}
 use Rattle.al_typed.specs.WellTyped.{is_sound, is_stored}
 use Rattle.al_environment.specs.declared.environment.Environment.{Environment}

@@ -5,10 +5,10 @@ use Rattle.std.specs.List.{AllByRecursion, flat_map}
 use Rattle.std.proofs.lemmas.List.Elements.{All-append, All-contains, All-contains_itself, All-from_recursion, All-head, All-map, All-nil, All-weaker, recursion_from_All}
 use Rattle.al_base.specs.declared.place.Place.{Place}
 use Rattle.al_tree.specs.declared.expression.Expr.{Expr}
-use Rattle.al_tree.specs.declared.item.Initializer.{Initializer, fold-Initializer, fold-roll-Initializer, map-Initializer, roll-Initializer}
+use Rattle.al_tree.specs.declared.item.Initializer.{Initializer, fold-roll-Initializer, map-Initializer, roll-Initializer}
 use Rattle.al_tree.specs.declared.item.Initializer.TheFolds.{ind-Initializer}
 use Rattle.al_tree.specs.declared.item.Initializer.TheOpen.{Initializer-F}
-use Rattle.al_rules.specs.Outcome.{Good, ask, both, judge, and_then}
+use Rattle.al_rules.specs.Outcome.{Good, ask, judge, and_then}
 use Rattle.al_scope.specs.Expressions.{place}
 use Rattle.al_typed.specs.declared.layout.Unit.{Unit}
 use Rattle.al_typed.specs.declared.ty.Ty.{Ty}
@@ -28,7 +28,7 @@ use Rattle.al_initial.specs.Start.{placed, started, values_at}
 use Rattle.al_initial.specs.Initializers.{Way, all_started, braces, in_parts_if, initializer, parts_of, step, value_started}
 use Rattle.al_sound_operators.proofs.Outcomes.{and_then_good, both_good, judge_good}
 use Rattle.al_sound_programs.specs.Starts.{AreStarts, MembersAreStored, StartsIn, TextIsThere, TextsAreThere, values_in, values_step}
-use Rattle.al_sound_programs.proofs.PartsStand.{AreParts, ArePartsOf, IsPartOf, contains-map, parts_are}
+use Rattle.al_sound_programs.proofs.PartsStand.{AreParts, IsPartOf, contains-map, parts_are}
 use Rattle.al_sound_programs.proofs.StartsAre.{values_start}
 
 good_is : {A : Type 0} {a b : A} → Good a ≡ Good b → a ≡ b

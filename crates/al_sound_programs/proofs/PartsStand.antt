@@ -1,5 +1,5 @@
 -- The parts of an array and of an aggr stand at units of the whole.
-use Rattle.std.proofs.Common.{◌≡◌, inl, inr, ℕ, zero, suc, ◌+◌, ◌*◌, ◌<◌, ◌≤◌, Bool, true, false, List, [], ◌∷◌, ◌++◌, map, length, take, drop, Option, Some, None, refl, ap, sym, ◌∙◌, subst, arith}
+use Rattle.std.proofs.Common.{◌≡◌, inl, inr, ℕ, zero, suc, ◌+◌, ◌*◌, ◌<◌, ◌≤◌, Bool, true, false, List, [], ◌∷◌, ◌++◌, map, take, drop, Option, Some, None, refl, ap, sym, ◌∙◌, subst, arith}
 use Rattle.std.specs.Prelude.{All, Contains, ◌⊎◌, if◌then◌else◌, slice_get, unwrap_or, fold, option_map}
 use Rattle.std.specs.List.{AllByRecursion, flat_map, range_with_len}
 use Rattle.std.proofs.lemmas.Bool.{and_from, and_parts, cases_eq}
@@ -14,7 +14,7 @@ use Rattle.al_typed.specs.declared.ty.Ty.TheBlock.{hidden-the_row-Ty-0}
 use denote.Hole.Carrier.{hidden}
 use Rattle.al_typed.specs.declared.program.Aggregate.{Aggregate}
 use Rattle.al_typed.specs.Types.{is_complete}
-use Rattle.al_typed.specs.Layout.{IsLaidOut, Layout, Member, Run, begun, followed, in_order, layout, members_of, moved, offsets_from, repeated, rounded, size_of, unit_at, units_of}
+use Rattle.al_typed.specs.Layout.{IsLaidOut, Layout, Member, Run, begun, followed, in_order, layout, moved, offsets_from, repeated, rounded, size_of, unit_at, units_of}
 use Rattle.al_typed.specs.WellTyped.{is_sound, is_stored}
 use Rattle.al_typed.proofs.CappedLemmas.{rounded_above}
 use Rattle.al_typed.proofs.Completeness.{is_complete-Array, layout-stays}

@@ -1,16 +1,13 @@
 -- The program of a text that the typing rules accept has sound types, by what the environment tells and what bodies give.
-use Rattle.std.proofs.Common.{◌≡◌, ℕ, ◌+◌, ◌≤◌, true, List, [], ◌∷◌, ◌++◌, length, Option, Some, None, refl, sym, ap, ◌∙◌, subst, arith, length-append}
-use Rattle.std.specs.Prelude.{All, slice_get, ⊤}
-use Rattle.std.specs.List.{flat_map}
+use Rattle.std.proofs.Common.{◌≡◌, ℕ, ◌+◌, true, List, length, Option, Some, None, refl, subst, arith, length-append}
+use Rattle.std.specs.Prelude.{All}
 use Rattle.std.proofs.lemmas.List.Elements.{All-weaker}
 use Rattle.al_tree.specs.declared.item.Tree.{Tree}
-use Rattle.al_rules.specs.Outcome.{Outcome, Good, and_then}
+use Rattle.al_rules.specs.Outcome.{Good, and_then}
 use Rattle.al_scope.specs.declared.declaration.Scopes.{Scopes}
 use Rattle.al_scope.specs.Items.{resolved}
-use Rattle.al_typed.specs.declared.program.Function.{Function}
 use Rattle.al_typed.specs.declared.program.Program.{Program}
 use Rattle.al_typed.specs.Sound.{HasSoundTypes, IsSoundFunction}
-use Rattle.al_typed.specs.WellTyped.{is_stored}
 use Rattle.al_called.specs.Items.{names_are_called}
 use Rattle.al_poly.specs.declared.instance.Instance.{Instance}
 use Rattle.al_declare.specs.Functions.{functions as functions_of}
@@ -18,7 +15,6 @@ use Rattle.al_declare.specs.Items.{names_hold}
 use Rattle.al_environment.specs.declared.environment.Environment.{Environment}
 use Rattle.al_environment.specs.declared.environment.Here.{Here}
 use Rattle.al_environment.specs.declared.environment.Round.{Round}
-use Rattle.al_environment.specs.declared.environment.Variable.{Variable}
 use Rattle.al_build_environment.specs.Whole.{environment}
 use Rattle.al_initial.specs.declared.globals.Initial.{Initial}
 use Rattle.al_initial.specs.Whole.{initial}

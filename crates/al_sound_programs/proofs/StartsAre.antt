@@ -1,13 +1,13 @@
 -- What a value alone starts a part of a global with.
-use Rattle.std.proofs.Common.{◌≡◌, inl, inr, ℕ, ◌+◌, ◌*◌, ◌/◌, ◌%◌, ◌^◌, ◌<◌, ◌≤◌, Bool, true, false, ◌==◌, List, [], ◌∷◌, map, Option, Some, None, refl, sym, ap, ◌∙◌, subst, arith, zero, suc, zero-lt-suc, suc-le-suc, ℤ, pos, negsuc, lit<}
-use Rattle.std.specs.Prelude.{All, Contains, ◌⊎◌, if◌then◌else◌, is_some, ◌||◌, length, option_map, option_and_then, unsigned_abs}
+use Rattle.std.proofs.Common.{◌≡◌, inl, inr, ℕ, ◌+◌, ◌/◌, ◌%◌, ◌^◌, ◌<◌, Bool, true, false, List, [], ◌∷◌, Option, Some, None, refl, sym, ap, ◌∙◌, subst, arith, zero, suc, zero-lt-suc, suc-le-suc, ℤ, pos, negsuc, lit<}
+use Rattle.std.specs.Prelude.{All, Contains, ◌⊎◌, if◌then◌else◌, is_some, ◌||◌, option_map, option_and_then, unsigned_abs}
 use Rattle.std.specs.Int.{int_rem_euclid}
 use Rattle.std.proofs.lemmas.List.Elements.{All-cons, All-nil, All-weaker}
 use Rattle.al_base.specs.Arith.{integer_of, width_of, wrapped}
 use Rattle.al_base.specs.declared.arith.Kind.{Kind}
 use Rattle.al_base.specs.declared.arith.Kind.TheVariants as kind
 use Rattle.al_base.specs.declared.place.Place.{Place}
-use Rattle.al_rules.specs.Outcome.{Outcome, Good, Bad, ask, judge, and_then}
+use Rattle.al_rules.specs.Outcome.{Good, ask, judge}
 use Rattle.al_typed.specs.declared.ty.Ty.{Ty, roll-Ty}
 use Rattle.al_typed.specs.declared.ty.Ty.TheOpen.{Ty-F}
 use Rattle.al_typed.specs.declared.ty.Ty.TheVariants as ty
@@ -22,7 +22,7 @@ use Rattle.al_typed.specs.declared.program.StartWord.TheVariants as word
 use Rattle.al_typed.specs.declared.expression.TExpr.{TExpr}
 use Rattle.al_typed.specs.Types.{bytes_of, is_scalar, is_scalar_at}
 use Rattle.al_typed.specs.Typed.{type_of}
-use Rattle.al_typed.specs.Layout.{Layout, layout, moved, of_bytes, single, unit_at, units_of}
+use Rattle.al_typed.specs.Layout.{Layout, moved, of_bytes, unit_at, units_of}
 use Rattle.al_typed.specs.WellTyped.{FitsIn, Starts}
 use Rattle.al_typed.proofs.Layouts.{layout-Chan, layout-Integer, layout-Pointer}
 use Rattle.al_typed.proofs.Placing.{moved-none}
@@ -40,7 +40,7 @@ use Rattle.al_initial.specs.declared.start.Start.TheVariants as start
 use Rattle.al_initial.specs.Start.{constant_start, integer_bits, integer_start, is_null, is_null_at, start_in, start_of, started, text_of, text_word, value, values_at, word_of}
 use Rattle.al_sound_programs.specs.Starts.{AreStarts, StartsIn, TextIsThere}
 use Rattle.al_sound_operators.proofs.Outcomes.{and_then_good, judge_good}
-use Rattle.al_sound_operators.proofs.TypeForms.{a_channel, a_pointer, integer_is, pointer_is, there}
+use Rattle.al_sound_operators.proofs.TypeForms.{a_channel, a_pointer, integer_is}
 
 good_is : {A : Type 0} {a b : A} → Good a ≡ Good b → a ≡ b
 good_is h = cc

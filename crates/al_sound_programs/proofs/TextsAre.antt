@@ -1,10 +1,9 @@
 -- String constants that globals start with are those of the program.
-use Rattle.std.proofs.Common.{◌≡◌, ℕ, ◌+◌, ◌<◌, ◌≤◌, Bool, true, false, List, [], ◌∷◌, ◌++◌, length, Option, Some, None, refl, sym, ◌∙◌, subst, arith}
-use Rattle.std.specs.Prelude.{All, Contains, if◌then◌else◌, nat_le}
+use Rattle.std.proofs.Common.{◌≡◌, ℕ, ◌+◌, ◌<◌, ◌≤◌, true, List, [], ◌∷◌, length, Some, refl, ◌∙◌, subst, arith}
+use Rattle.std.specs.Prelude.{All, nat_le}
 use Rattle.std.specs.List.{flat_map, list_all}
 use Rattle.std.proofs.lemmas.List.Elements.{All-append, All-contains, All-nil, All-weaker}
 use Rattle.al_tree.specs.declared.expression.Expr.{Expr}
-use Rattle.al_tree.specs.declared.type_tree.TypeTree.{TypeTree}
 use Rattle.al_tree.specs.declared.item.Tree.{Tree}
 use Rattle.al_rules.specs.Outcome.{Good}
 use Rattle.al_typed.specs.declared.program.Program.{Program}
@@ -14,8 +13,6 @@ use Rattle.al_typed.specs.WellTyped.{IsValue, is_sound}
 use Rattle.al_environment.specs.declared.environment.Environment.{Environment}
 use Rattle.al_environment.specs.declared.environment.Here.{Here}
 use Rattle.al_environment.specs.declared.environment.Round.{Round}
-use Rattle.al_environment.specs.declared.numbered.Numbered.{Numbered}
-use Rattle.al_environment.specs.Written.{written}
 use Rattle.al_body_parts.specs.declared.parts.WrittenText.{WrittenText}
 use Rattle.al_operands.specs.declared.operand.Operand.{Operand}
 use Rattle.al_type_expr.specs.Nodes.{value_of}
@@ -24,7 +21,6 @@ use Rattle.al_initial.specs.Whole.{gathered, numbered, numbered_text, outside}
 use Rattle.al_sound_operators.specs.Typed.{IsOperand}
 use Rattle.al_sound_operators.proofs.Outcomes.{if_good}
 use Rattle.al_sound_nodes.specs.Nodes.{Tells}
-use Rattle.al_sound_statements.specs.Bodies.{expr_types}
 use Rattle.al_sound_statements.specs.Gathered.{TypesAreGathered}
 use Rattle.al_sound_programs.specs.Functions.{IsReady, ValuesAreTyped, among_any}
 use Rattle.al_sound_programs.specs.Starts.{TextIsThere, TextsAreThere, item_values, numbered_outside}

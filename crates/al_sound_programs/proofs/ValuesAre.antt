@@ -1,5 +1,5 @@
 -- Values of initializers are well typed, by what is known of expressions.
-use Rattle.std.proofs.Common.{◌≡◌, ℕ, ◌<◌, Bool, true, false, List, [], ◌∷◌, Option, Some, None, cond, refl, sym, subst}
+use Rattle.std.proofs.Common.{◌≡◌, ℕ, ◌<◌, Bool, true, false, List, [], ◌∷◌, Option, Some, None, cond, sym, subst}
 use Rattle.std.specs.Prelude.{All, Contains, find, option_map, slice_get}
 use Rattle.std.proofs.lemmas.List.Elements.{All-head, All-tail, Contains-append_right}
 use Rattle.al_base.specs.declared.place.Place.{Place}
@@ -7,16 +7,12 @@ use Rattle.al_rules.specs.Outcome.{same_place}
 use Rattle.al_scope.specs.Firsts.{declaration_at}
 use Rattle.al_scope.specs.declared.declaration.Declaration.{Declaration}
 use Rattle.al_scope.specs.declared.declaration.Declaration.TheVariants as declaration
-use Rattle.al_tree.specs.declared.expression.Expr.{Expr}
-use Rattle.al_tree.specs.declared.type_tree.TypeTree.{TypeTree}
 use Rattle.al_typed.specs.declared.program.Aggregate.{Aggregate}
 use Rattle.al_typed.specs.declared.ty.Ty.{Ty}
-use Rattle.al_typed.specs.declared.expression.TPlace.{TPlace}
 use Rattle.al_typed.specs.declared.expression.TPlace.TheVariants as place
 use Rattle.al_typed.specs.declared.expression.TExpr.TheBlock.{hidden-the_row-TPlace-0}
 use denote.Hole.Carrier.{hidden}
 use Rattle.al_typed.specs.WellTyped.{HasAddress}
-use Rattle.al_environment.specs.declared.environment.Environment.{Environment}
 use Rattle.al_environment.specs.declared.environment.Here.{Here}
 use Rattle.al_environment.specs.declared.environment.Round.{Round}
 use Rattle.al_environment.specs.declared.numbered.Numbered.{Numbered}

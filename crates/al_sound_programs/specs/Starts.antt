@@ -1,7 +1,6 @@
 -- What globals start with: each value stands at a unit of its global, and fits in it.
-use Rattle.std.specs.Prelude.{◌≡◌, ℕ, ◌+◌, ◌<◌, ◌≤◌, ◌^◌, true, All, Bool, Contains, List, [], ◌∷◌, length, Option, Some, None, slice_get}
+use Rattle.std.specs.Prelude.{◌≡◌, ℕ, ◌<◌, true, All, Contains, List, [], ◌∷◌, length, Option, Some, None, slice_get}
 use Rattle.std.specs.List.{flat_map}
-use Rattle.al_base.specs.declared.place.Place.{Place}
 use Rattle.al_tree.specs.declared.expression.Expr.{Expr}
 use Rattle.al_tree.specs.declared.item.Initializer.{Initializer, fold-Initializer}
 use Rattle.al_tree.specs.declared.item.Initializer.TheOpen.{Initializer-F}
@@ -16,19 +15,14 @@ use Rattle.al_typed.specs.declared.program.Aggregate.{Aggregate}
 use Rattle.al_typed.specs.declared.program.Program.{Program}
 use Rattle.al_typed.specs.declared.program.StartValue.{StartValue}
 use Rattle.al_typed.specs.declared.expression.TExpr.{TExpr}
-use Rattle.al_typed.specs.Layout.{IsLaidOut, members_of, moved, size_of, unit_at, units_of}
+use Rattle.al_typed.specs.Layout.{members_of, moved, unit_at, units_of}
 use Rattle.al_typed.specs.WellTyped.{FitsIn, is_stored}
-use Rattle.al_typed.specs.Sound.{IsSoundGlobal}
 use Rattle.al_environment.specs.declared.environment.Environment.{Environment}
 use Rattle.al_environment.specs.declared.environment.Here.{Here}
-use Rattle.al_environment.specs.declared.environment.Variable.{Variable}
 use Rattle.al_operands.specs.declared.operand.Operand.{Operand}
 use Rattle.al_type_expr.specs.Nodes.{value_of}
-use Rattle.al_initial.specs.declared.start.Start.{Start}
-use Rattle.al_initial.specs.Start.{started, text_of, values_at}
-use Rattle.al_initial.specs.Initializers.{initializer}
-use Rattle.al_initial.specs.declared.globals.Initial.{Initial}
-use Rattle.al_initial.specs.Whole.{gathered, initial, numbered, outside}
+use Rattle.al_initial.specs.Start.{text_of}
+use Rattle.al_initial.specs.Whole.{gathered, numbered, outside}
 
 -- a value at a unit of a part of that type, which stands so many bytes from the front of its global
 abbrev pub StartsIn : Program → Ty → ℕ → StartValue → Type 0
@@ -66,7 +60,7 @@ item_values _ = []
 abbrev pub TextsAreThere : Program → Environment → Here → List Expr → Type 0
 TextsAreThere p env here es = All (λ (e : Expr). (x : Operand) → value_of env here e ≡ Good x → TextIsThere p x.value) es
 
--- ---- the laws
+-- ---- where they stand
 
 -- members of aggregates have the types of values in storage
 abbrev pub MembersAreStored : List Aggregate → Type 0
@@ -75,16 +69,3 @@ MembersAreStored rows = (k : ℕ) (a : Aggregate) → slice_get rows k ≡ Some 
 -- where string constants have the numbers that the initializers of a text give them
 abbrev pub numbered_outside : Environment → Tree → Here
 numbered_outside env tree = outside (numbered 0 (gathered env tree).texts)
-
-pub record StartsAreSound : Type 0 where
-  -- what a value alone starts
-  pub values : (p : Program) (at : Place) (t : Ty) (x : Operand) (s : Start) (offset : ℕ) → TextIsThere p x.value → started p.aggregates at t x ≡ Good s
-      → AreStarts p t offset (values_at offset s)
-  -- an initializer of a part that stands so many bytes from the front of its global, which is no larger than types may be
-  pub initializers : (p : Program) (env : Environment) (here : Here) (adts : List Bool) → env.aggregates ≡ p.aggregates → IsLaidOut p.aggregates
-      → MembersAreStored p.aggregates → (i : Initializer) (t : Ty) (offset : ℕ) (vs : List StartValue) → TextsAreThere p env here (values_in i)
-      → is_stored p.aggregates t ≡ true → offset + size_of p.aggregates t ≤ 2 ^ 28 → initializer env here adts i t offset ≡ Good vs → AreStarts p t offset vs
-  -- the globals of a text
-  pub globals : (p : Program) (env : Environment) (tree : Tree) (i : Initial) → env.aggregates ≡ p.aggregates → IsLaidOut p.aggregates
-      → MembersAreStored p.aggregates → All (λ (v : Variable). is_stored p.aggregates v.ty ≡ true) env.globals
-      → TextsAreThere p env (numbered_outside env tree) (flat_map item_values tree.items) → initial env tree ≡ Good i → All (IsSoundGlobal p) i.globals

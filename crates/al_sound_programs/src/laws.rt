@@ -1,9 +1,9 @@
-// Laws on the typing rules.
+// A law on the typing rules.
 
 ghost use Rattle.al_sound_programs.specs.Programs.{ProgramsAreSound};
 
-/// What the definitions give of a program is well typed, where the bodies of its functions and what its environment tells are:
-/// the rows of functions and of branches, the elements of channels, what globals start with, and main.
+/// The program of a text that the typing rules accept has sound types: the terms of its bodies are well typed among any names of
+/// sound types, its variables are stored, and its globals start within themselves.
 pub fn programs_are_sound()
     ensures { ProgramsAreSound }
 {}

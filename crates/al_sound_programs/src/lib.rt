@@ -1,5 +1,4 @@
-//! What the rows of functions, the globals, the elements of channels and main are in the program of a text. The function here
-//! does nothing, and its contract is a law.
+//! The program of a text that the typing rules accept has sound types. The function here does nothing, and its contract is a law.
 #![tactic(auto)]
 
 mod laws;

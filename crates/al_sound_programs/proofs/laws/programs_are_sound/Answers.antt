@@ -1,4 +1,4 @@
-use Rattle.al_sound_programs.proofs.ProgramsAre.{programs_are_sound}
+use Rattle.al_sound_programs.proofs.SoundPrograms.{programs_are_sound}
 use Rattle.al_sound_programs.proofs.laws.programs_are_sound.Goals as goal
 
 pub returns : goal.returns
