@@ -1,5 +1,5 @@
 -- The row of a function of a text, and those of the branches in it.
-use Rattle.std.proofs.Common.{◌≡◌, ℕ, ◌+◌, ◌≤◌, true, List, [], ◌++◌, length, refl, sym, subst, arith}
+use Rattle.std.proofs.Common.{◌≡◌, ℕ, ◌+◌, ◌≤◌, ap, ◌∙◌, true, List, [], ◌++◌, length, refl, sym, subst, arith}
 use Rattle.std.specs.Prelude.{All}
 use Rattle.std.specs.List.{list_all}
 use Rattle.std.proofs.lemmas.List.{length-map}
@@ -10,6 +10,7 @@ use Rattle.al_tree.specs.declared.statement.Stmt.{Stmt}
 use Rattle.al_rules.specs.Outcome.{Good}
 use Rattle.al_flow.specs.Flow.{targets}
 use Rattle.al_shared.specs.Statements.{shared}
+use Rattle.al_typed.specs.declared.statement.TStmt.{TStmt}
 use Rattle.al_typed.specs.Sound.{outermost}
 use Rattle.al_typed.specs.WellTyped.{IsStatement, is_sound}
 use Rattle.al_environment.specs.declared.environment.Environment.{Environment}
@@ -19,6 +20,7 @@ use Rattle.al_environment.specs.declared.numbered.Numbered.{Numbered}
 use Rattle.al_type_rules.specs.Types.{signature}
 use Rattle.al_adt_functions.specs.Owned.{here_in}
 use Rattle.al_body_parts.specs.Statements.{parts}
+use Rattle.al_type_stmt.specs.declared.within.Within.{Within}
 use Rattle.al_type_stmt.specs.Statements.{statement}
 use Rattle.al_type_function.specs.declared.numbers.FunctionNumbers.{FunctionNumbers}
 use Rattle.al_type_function.specs.declared.branch.NumberedBranch.{NumberedBranch}
@@ -80,7 +82,7 @@ opened_is env names numbers base head body here o e =
     })
 
 -- what is at hand in its body
-here_in_body : Opened → Here
+abbrev here_in_body : Opened → Here
 here_in_body o = here_of o.own o.variables o.numbered
 
 pub record IsSoundTyped (env : Environment) (strings functions : ℕ) (t : TypedFunction) : Type 0 where
@@ -88,7 +90,7 @@ pub record IsSoundTyped (env : Environment) (strings functions : ℕ) (t : Typed
   pub branches : All (λ (b : NumberedBranch). IsSoundRow env.aggregates strings functions b.function) t.branches
 
 module _ (env : Environment) (strings functions : ℕ) (law : BodiesAreTyped env strings functions) where
-  body_ready : (numbers : FunctionNumbers) (body : Stmt) (here : Here) (o : Opened) → IsOpened env numbers body here o → numbers.texts + length o.texts ≤ strings → IsReady env.aggregates strings (here_of o.own o.variables o.numbered)
+  body_ready : (numbers : FunctionNumbers) (body : Stmt) (here : Here) (o : Opened) → IsOpened env numbers body here o → numbers.texts + length o.texts ≤ strings → IsReady env.aggregates strings (here_in_body o)
   body_ready numbers body here o is few = record {
     locals = is.variables;
     around = All-nil (λ (r : Round). All (IsStoredVariable env.aggregates) r.locals);
@@ -96,27 +98,36 @@ module _ (env : Environment) (strings functions : ℕ) (law : BodiesAreTyped env
     iterators = refl;
   }
 
+  -- from what its body gives
+  typed_is : (names : List (List ℕ)) (numbers : FunctionNumbers) (w : Within) (body : Stmt) (at : Here) (o : Opened) (typed : TStmt) (bs : List NumberedBranch) → w.returns ≡ o.outline.returns
+      → IsOpened env numbers body at o → numbers.texts + length o.texts ≤ strings → statement w env (here_in_body o) body ≡ Good typed
+      → branches env names (in_branches w) body (site_of (here_in_body o) numbers.number) [] ≡ Good bs → IsSoundTyped env strings functions (typed_with o (typed, bs))
+  typed_is names numbers w body at o typed bs returns is few e g =
+      let here : Here = here_in_body o in
+      let ready = body_ready numbers body at o is few in
+      let sound = law w here at body ready is.own (ap (is_sound env.aggregates) returns ∙ is.returns) is.written in
+      record {
+        function = record {
+          locals = is.locals;
+          returns = is.returns;
+          shared = is.small;
+          body = if_good (IsStatement (among_any env.aggregates strings functions) outermost) (statement w env here body) typed sound e;
+        };
+        branches = branches_are env strings functions law names (in_branches w) refl body (site_of here numbers.number) [] bs ready
+            (All-nil (λ (b : NumberedBranch). IsSoundRow env.aggregates strings functions b.function)) g;
+      }
+
   pub function_is : (names : List (List ℕ)) (numbers : FunctionNumbers) (bs : List Numbered) (base : TypeTree) (head : Head) (body : Stmt) (t : TypedFunction)
       → function env names numbers bs base head body ≡ Good t → numbers.texts + length t.texts ≤ strings → IsSoundTyped env strings functions t
   unfolding function completed bodies
   function_is names numbers bs base head body t e few =
       let a = after_pair (opened env names numbers base head body) (targets body) (λ p. completed env names numbers.number bs body p.0 p.1) t e in
       let o : Opened = a.0 in
-      let w = within_of o a.1 bs in
-      let here = here_of o.own o.variables o.numbered in
+      let w : Within = within_of o a.1 bs in
+      let here : Here = here_in_body o in
       let c = after_pair (statement w env here body) (branches env names (in_branches w) body (site_of here numbers.number) []) (λ p. Good (typed_with o p)) t a.4 in
       let made : typed_with o (c.0, c.1) ≡ t = good_is c.4 in
       let at : Here = here_in (own_adt env head.owner numbers.instance) in
       let is = opened_is env names numbers base head body at o a.2 in
-      let ready = body_ready numbers body at o is (subst (λ (u : TypedFunction). numbers.texts + length u.texts ≤ strings) (sym made) few) in
-      let typed = law w here at body ready is.own is.returns is.written in
-      subst (IsSoundTyped env strings functions) made (record {
-        function = record {
-          locals = is.locals;
-          returns = is.returns;
-          shared = is.small;
-          body = if_good (IsStatement (among_any env.aggregates strings functions) outermost) (statement w env here body) c.0 typed c.2;
-        };
-        branches = branches_are env strings functions law names (in_branches w) refl body (site_of here numbers.number) [] c.1 ready
-            (All-nil (λ (b : NumberedBranch). IsSoundRow env.aggregates strings functions b.function)) c.3;
-      })
+      subst (IsSoundTyped env strings functions) made
+      (typed_is names numbers w body at o c.0 c.1 refl is (subst (λ (u : TypedFunction). numbers.texts + length u.texts ≤ strings) (sym made) few) c.2 c.3)
