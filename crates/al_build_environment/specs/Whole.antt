@@ -1,7 +1,9 @@
 -- The environment of a whole text: what its items declare.
 use Rattle.std.specs.Prelude.{ℕ, List, [], Option}
+use Rattle.al_base.specs.declared.place.Place.{Place}
 use Rattle.al_tree.specs.declared.item.Tree.{Tree}
-use Rattle.al_rules.specs.Outcome.{Outcome, Good, and_then}
+use Rattle.al_rules.specs.declared.fault.TypeFault.{TypeFault}
+use Rattle.al_rules.specs.Outcome.{Outcome, and_then, ask, judge}
 use Rattle.al_typed.specs.declared.program.Aggregate.{Aggregate}
 use Rattle.al_typed.specs.declared.ty.Ty.{Ty}
 use Rattle.al_scope.specs.declared.declaration.Scopes.{Scopes}
@@ -9,6 +11,7 @@ use Rattle.al_poly.specs.declared.instance.Instance.{Instance}
 use Rattle.al_environment.specs.declared.environment.MemberNames.{MemberNames}
 use Rattle.al_environment.specs.declared.environment.InstanceType.{InstanceType}
 use Rattle.al_environment.specs.declared.environment.Environment.{Environment}
+use Rattle.al_sound_types.specs.Environment.{environment_holds}
 use Rattle.al_form.specs.declared.form.Forms.{Forms}
 use Rattle.al_form.specs.Forms.{forms}
 use Rattle.al_layout.specs.declared.row.LaidOut.{LaidOut}
@@ -21,6 +24,9 @@ use Rattle.al_adt_functions.specs.Functions.{functions as own_functions}
 use Rattle.al_globals.specs.declared.found.Found.{Found}
 use Rattle.al_globals.specs.Numbers.{numbers}
 use Rattle.al_globals.specs.Globals.{globals}
+
+abbrev pub first_place : Place
+first_place = record { line = 1; col = 1 }
 
 -- the environment in which types are found: no names, globals and functions are known
 abbrev pub of_types : List Aggregate → List (Option Ty) → List InstanceType → Scopes → Environment
@@ -55,8 +61,16 @@ names_of env tree defined fs order ns = and_then (own_functions env tree.items d
 abbrev pub globals_of : Environment → Tree → List Defined → Outcome Found
 globals_of env tree defined = globals env tree (numbers tree.names tree.items defined)
 
+-- The rules of types are asked where a type is written, at the place of what breaks them. Here they are asked of all types as wholes, behind all others, so
+-- that they are known to hold however a type came about. A break counts as one of rule 18 at the text's first place.
+abbrev pub types_faults : Environment → List TypeFault
+types_faults env = ask 18 first_place (environment_holds env)
+
+unfoldable pub checked : Environment → Outcome Environment
+checked env = judge (types_faults env) env
+
 abbrev pub named : Environment → List MemberNames → Found → Outcome Environment
-named env names found = Good (with_names env names found)
+named env names found = checked (with_names env names found)
 
 unfoldable pub whole : Environment → Tree → List Defined → Forms → (order ns : List ℕ) → Outcome Environment
 whole env tree defined fs order ns =

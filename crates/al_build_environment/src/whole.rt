@@ -5,6 +5,7 @@ ghost use Rattle.al_typed.specs.Layout.{IsLaidOut};
 ghost use Rattle.al_build_environment.specs.Whole as spec;
 
 use al_adt_functions::functions as own_functions;
+use al_base::Place;
 use al_build_types::{instances as instance_types, types};
 use al_declare::{Defined, functions};
 use al_environment::{Environment, InstanceType, MemberNames};
@@ -14,8 +15,9 @@ use al_items::Items;
 use al_layout::{LaidOut, laid_out};
 use al_member_names::member_names;
 use al_poly::Instances;
-use al_rules::TypeStop;
+use al_rules::{TypeStop, ask, judged};
 use al_scope::Scopes;
+use al_sound_types::environment_holds;
 use al_tree::Tree;
 use al_typed::{Aggregate, Ty};
 use std::alloc::Global;
@@ -102,6 +104,19 @@ fn globals_of(
     globals(alloc, env, tree, bodies.as_slice())
 }
 
+/// An environment whose types, as wholes, are ones that the rules leave.
+#[tactic(auto, unfolding(crate::specs::Whole::checked), using(al_rules::proofs::Permits::permitted))]
+fn checked(alloc: Global, env: Environment) -> Result<Environment, TypeStop>
+    requires { IsLaidOut env.aggregates }
+    ensures answer { Answers result (spec.checked env) }
+    ensures same { IfOk result (λ e. e ≡ env) }
+{
+    let mut faults = Items::new(alloc);
+    let holds = environment_holds(&env);
+    ask(&mut faults, 18, Place { line: 1, col: 1 }, holds)?;
+    judged(faults.as_slice(), env)
+}
+
 #[tactic(auto, using(al_rules::proofs::Permits::permitted), unfolding(crate::specs::Whole::whole))]
 fn whole(
     alloc: Global,
@@ -118,7 +133,7 @@ fn whole(
 {
     let names = names_of(alloc, &env, tree, defined, forms, order, numbers)?;
     let found = globals_of(alloc, &env, tree, defined)?;
-    Ok(with_names(env, names, found))
+    checked(alloc, with_names(env, names, found))
 }
 
 /// The environment of a text whose types with members are laid out so.

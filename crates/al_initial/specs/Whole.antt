@@ -1,11 +1,16 @@
 -- The globals of a whole text with what they start with.
 use Rattle.std.specs.Prelude.{ℕ, ◌+◌, nat_le, if◌then◌else◌, List, [], ◌∷◌, ◌++◌, map, fold, slice_get, Option, Some, None, unwrap_or}
 use Rattle.al_base.specs.declared.place.Place.{Place}
-use Rattle.al_rules.specs.Outcome.{Outcome, Good, judge, and_then}
+use Rattle.std.specs.List.{list_all}
+use Rattle.al_rules.specs.declared.fault.TypeFault.{TypeFault}
+use Rattle.al_rules.specs.Outcome.{Outcome, Good, ask, judge, and_then}
 use Rattle.al_tree.specs.declared.expression.Name.{Name}
 use Rattle.al_tree.specs.declared.item.Tree.{Tree}
+use Rattle.al_typed.specs.declared.program.Aggregate.{Aggregate}
 use Rattle.al_typed.specs.declared.program.Global.{Global}
 use Rattle.al_typed.specs.declared.program.StartValue.{StartValue}
+use Rattle.al_typed.specs.declared.ty.Ty.{Ty}
+use Rattle.al_typed.specs.WellTyped.{is_sound}
 use Rattle.al_environment.specs.declared.numbered.Numbered.{Numbered}
 use Rattle.al_environment.specs.declared.environment.Variable.{Variable}
 use Rattle.al_environment.specs.declared.environment.Environment.{Environment}
@@ -75,9 +80,16 @@ whole env tree w s = record { globals = globals_from env tree s 0 env.globals; t
 abbrev pub of_written : Environment → Tree → Written → Outcome Initial
 of_written env tree w = and_then (starts env tree (numbered 0 w.texts)) (λ s. Good (whole env tree w s))
 
+abbrev pub first_place : Place
+first_place = record { line = 1; col = 1 }
+
+-- behind these, of the types as wholes; a break counts as one of rule 18 at the text's first place
+abbrev pub types_faults : List Aggregate → List Ty → List TypeFault
+types_faults rows ts = ask 18 first_place (list_all (is_sound rows) ts)
+
 -- 7, 16, 18, 20. What is asked of the types that initializers write.
-abbrev pub judged : Parts → Outcome Written
-judged q = judge q.faults (record { texts = q.texts; types = q.types })
+abbrev pub judged : List Aggregate → Parts → Outcome Written
+judged rows q = judge (q.faults ++ types_faults rows q.types) (record { texts = q.texts; types = q.types })
 
 unfoldable pub initial : Environment → Tree → Outcome Initial
-initial env tree = and_then (judged (gathered env tree)) (of_written env tree)
+initial env tree = and_then (judged env.aggregates (gathered env tree)) (of_written env tree)

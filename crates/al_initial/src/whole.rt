@@ -9,13 +9,14 @@ use crate::gather::{Written, gather_items, nothing};
 use crate::globals::{Initial, globals};
 use crate::starts::{no_starts, started_in_all};
 use crate::texts::{all_bytes, numbered, outside};
-use al_base::NoMemory;
+use al_base::{NoMemory, Place};
 use al_body_parts::Parts;
 use al_environment::{Environment, Numbers};
 use al_items::Items;
-use al_rules::{TypeStop, judged};
+use al_rules::{TypeStop, ask, judged};
+use al_sound_types::are_sound;
 use al_tree::Tree;
-use al_typed::StartValue;
+use al_typed::{Aggregate, StartValue};
 use std::alloc::Global;
 
 /// What the initializers of a text write.
@@ -29,8 +30,11 @@ fn gathered(alloc: Global, env: &Environment, tree: &Tree) -> Result<Parts, NoMe
     Ok(parts)
 }
 
-fn written(parts: Parts) -> Result<Written, TypeStop>
-    ensures { Answers result (spec.judged parts) }
+/// What is written, where its types, also as wholes, are ones that the rules leave.
+#[tactic(auto, using(al_rules::proofs::Permits::permitted))]
+fn written(rows: &[Aggregate], parts: Parts) -> Result<Written, TypeStop>
+    requires { IsLaidOut rows.now }
+    ensures { Answers result (spec.judged rows.now parts) }
 {
     let Parts {
         locals: _,
@@ -39,6 +43,9 @@ fn written(parts: Parts) -> Result<Written, TypeStop>
         labels: _,
         faults,
     } = parts;
+    let mut faults = faults;
+    let holds = are_sound(rows, types.as_slice());
+    ask(&mut faults, 18, Place { line: 1, col: 1 }, holds)?;
     judged(faults.as_slice(), Written { texts, types })
 }
 
@@ -101,6 +108,6 @@ pub fn initial(alloc: Global, env: &Environment, tree: &Tree) -> Result<Initial,
     ensures { Answers result (spec.initial env.now tree.now) }
 {
     let parts = gathered(alloc, env, tree)?;
-    let w = written(parts)?;
+    let w = written(env.aggregates.as_slice(), parts)?;
     of_written(alloc, env, tree, w)
 }

@@ -1,2 +1,3 @@
 pub mod ListsAre
 pub mod NodesAre
+pub mod SizesAre

@@ -27,7 +27,7 @@ use Rattle.al_type_nodes.specs.Uses.{sized}
 use Rattle.al_type_nodes.specs.Names.{named}
 use Rattle.al_type_calls.specs.Callees.{named_callee}
 use Rattle.al_type_expr.specs.Leaves.{number, character, text_found, nil_found, iterator_found}
-use Rattle.al_type_expr.specs.Lists.{columns, tuple, each, sequenced}
+use Rattle.al_type_expr.specs.Lists.{columns, small_tuple, each, sequenced}
 use Rattle.al_type_expr.specs.Parts.{gives, is_at, unary, postfix_found, cast_to, type_sized, member_found, member_callee}
 use Rattle.al_type_expr.specs.Nodes.{Node, step, node, found, value_of, dropped_value, operand_of, dropped_of, aim, value_callee, nil_aim, tuple_target, assignment, called, format_call}
 
@@ -133,8 +133,8 @@ module _ (env : Environment) (here : Here) where
   pub found-Name : (at : Place) (name : ℕ) → found env here (n.Name at name) ≡ named env here at
   found-Name at name = ap (λ (m : Node). m.found) (node-Name at name)
 
-  pub found-Tuple : (at : Place) (parts : List Expr) → found env here (n.Tuple at parts) ≡ and_then (columns (map (value_of env here) parts)) (λ c. Good (tuple c))
-  found-Tuple at parts = ap (λ (m : Node). m.found) (node-Tuple at parts) ∙ ap (λ l. and_then (columns l) (λ c. Good (tuple c))) (operands_are parts)
+  pub found-Tuple : (at : Place) (parts : List Expr) → found env here (n.Tuple at parts) ≡ and_then (columns (map (value_of env here) parts)) (small_tuple env.aggregates at)
+  found-Tuple at parts = ap (λ (m : Node). m.found) (node-Tuple at parts) ∙ ap (λ l. and_then (columns l) (small_tuple env.aggregates at)) (operands_are parts)
 
   pub found-Unary : (at : Place) (op : Prefix) (a : Expr) → found env here (n.Unary at op a) ≡ and_then (found env here a) (unary env.aggregates at op (node env here a).at)
   found-Unary at op a = ap (λ (m : Node). m.found) (node-Unary at op a)
@@ -240,7 +240,7 @@ module _ (env : Environment) (here : Here) where
   pub target-Nil : (at : Place) (is_part : Bool) (by : Place) (t : Ty) → (node env here (n.Nil at)).target is_part by t ≡ nil_aim is_part by t
   target-Nil at is_part by t = ap (λ (m : Node). m.target is_part by t) (node-Nil at)
 
-  pub target-Tuple : (at : Place) (parts : List Expr) (is_part : Bool) (by : Place) (t : Ty) → (node env here (n.Tuple at parts)).target is_part by t ≡ tuple_target by (map (node env here) parts) (parts_of t)
+  pub target-Tuple : (at : Place) (parts : List Expr) (is_part : Bool) (by : Place) (t : Ty) → (node env here (n.Tuple at parts)).target is_part by t ≡ tuple_target env.aggregates by (map (node env here) parts) (parts_of t)
   target-Tuple at parts is_part by t = ap (λ (m : Node). m.target is_part by t) (node-Tuple at parts)
 
   target_step : (layer : Expr-F Expr) → ((at : Place) → layer ≡ Expr-F.Nil at → ⊥) → ((at : Place) (parts : List Expr) → layer ≡ Expr-F.Tuple at parts → ⊥) → (is_part : Bool) (by : Place) (t : Ty)

@@ -1,5 +1,6 @@
 -- Expressions without parts.
 use Rattle.std.specs.Prelude.{ℕ, ◌==◌, false, if◌then◌else◌, Option, Some, None}
+use Rattle.al_base.specs.Arith.{bits_in}
 use Rattle.al_base.specs.declared.place.Place.{Place}
 use Rattle.al_rules.specs.Outcome.{Outcome, Good, Bad, ask, judge}
 use Rattle.al_lex.specs.Values.{kind_of_value}
@@ -24,11 +25,13 @@ use Rattle.al_type_nodes.specs.Uses.{written_as, value}
 abbrev pub zero : ℕ → Literal
 zero n = if n == 0 then literal.Zero else literal.Other
 
+-- a number in a text has 64 bits
 unfoldable pub number : ℕ → Found
-number n = found.Value (written_as (zero n) (expr.Constant (ty.Integer (kind_of_value n)) n))
+number n = found.Value (written_as (zero n) (expr.Constant (ty.Integer (kind_of_value n)) (bits_in 64 n)))
 
+-- and a character 8
 unfoldable pub character : ℕ → Found
-character n = value (expr.Constant int n)
+character n = value (expr.Constant int (bits_in 8 n))
 
 -- a string constant, by the number of its block
 unfoldable pub text_found : Place → Option ℕ → Outcome Found

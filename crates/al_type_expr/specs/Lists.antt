@@ -1,12 +1,14 @@
 -- Lists of parts: of tuples, arguments and sequences.
-use Rattle.std.specs.Prelude.{◌-◌, false, List, [], ◌∷◌, ◌++◌, map, take, length, slice_get, Option, Some, None}
+use Rattle.std.specs.Prelude.{◌-◌, nat_le, Bool, false, List, [], ◌∷◌, ◌++◌, map, take, length, slice_get, Option, Some, None}
 use Rattle.al_base.specs.declared.place.Place.{Place}
-use Rattle.al_rules.specs.Outcome.{Outcome, Good, Bad, ask, and_then, both}
+use Rattle.al_rules.specs.Outcome.{Outcome, Good, Bad, ask, judge, and_then, both}
+use Rattle.al_typed.specs.declared.program.Aggregate.{Aggregate}
 use Rattle.al_typed.specs.declared.ty.Ty.{Ty}
 use Rattle.al_typed.specs.declared.ty.Ty.TheVariants as ty
 use Rattle.al_typed.specs.declared.expression.TExpr.{TExpr}
 use Rattle.al_typed.specs.declared.expression.TExpr.TheVariants as expr
 use Rattle.al_typed.specs.declared.expression.TTarget.{TTarget}
+use Rattle.al_typed.specs.Layout.{size_of}
 use Rattle.al_typed.specs.Typed.{type_of, target_type}
 use Rattle.al_convert.specs.declared.literal.Literal.TheVariants as literal
 use Rattle.al_operands.specs.declared.operand.Operand.{Operand}
@@ -34,6 +36,13 @@ columns (x ∷ xs) = both x (columns xs) (λ x c. Good (with_part x c))
 
 unfoldable pub tuple : Columns → Found
 tuple c = found.Value (written_as (literal.Tuple c.written) (expr.Tuple (ty.Tuple c.types) c.values))
+
+-- 18. A type has at most 2^28 bytes, and so that of a tuple with parts of these types.
+abbrev pub rule_18_tuple : List Aggregate → List Ty → Bool
+rule_18_tuple rows ts = nat_le (size_of rows (ty.Tuple ts)) 268435456
+
+unfoldable pub small_tuple : List Aggregate → Place → Columns → Outcome Found
+small_tuple rows at c = judge (ask 18 at (rule_18_tuple rows c.types)) (tuple c)
 
 -- ---- arguments
 

@@ -1,11 +1,12 @@
 -- The typed expression of a tree, or the faults in it.
 use Rattle.std.specs.Prelude.{ℕ, Bool, true, false, List, [], ◌∷◌, map, Option, Some, None}
 use Rattle.al_base.specs.declared.place.Place.{Place}
-use Rattle.al_rules.specs.Outcome.{Outcome, Good, Bad, ask, and_then, both, pair}
+use Rattle.al_rules.specs.Outcome.{Outcome, Good, Bad, ask, judge, and_then, both, pair}
 use Rattle.al_tree.specs.declared.expression.AssignOp.{AssignOp}
 use Rattle.al_tree.specs.declared.expression.AssignOp.TheVariants as assign
 use Rattle.al_tree.specs.declared.expression.Expr.{Expr, fold-Expr}
 use Rattle.al_tree.specs.declared.expression.Expr.TheOpen.{Expr-F}
+use Rattle.al_typed.specs.declared.program.Aggregate.{Aggregate}
 use Rattle.al_typed.specs.declared.ty.Ty.{Ty}
 use Rattle.al_typed.specs.declared.ty.Ty.TheVariants as ty
 use Rattle.al_typed.specs.declared.expression.TExpr.{TExpr}
@@ -30,7 +31,7 @@ use Rattle.al_type_calls.specs.declared.callee.Callee.{Callee}
 use Rattle.al_type_calls.specs.declared.callee.Callee.TheVariants as callee
 use Rattle.al_type_calls.specs.Callees.{pointer_callee, named_callee}
 use Rattle.al_type_expr.specs.Leaves.{number, character, text_found, nil_found, iterator_found, place_target, assigned_to}
-use Rattle.al_type_expr.specs.Lists.{columns, tuple, arguments, prints, each, sequenced, target_types}
+use Rattle.al_type_expr.specs.Lists.{columns, small_tuple, rule_18_tuple, arguments, prints, each, sequenced, target_types}
 use Rattle.al_type_expr.specs.Parts.{gives, is_at, unary, postfix_found, cast_to, type_sized, member_found, member_callee, compound}
 
 -- ---- what is said of a node
@@ -89,12 +90,16 @@ targets at (n ∷ ns) (t ∷ ts) = both (n.target true at t) (targets at ns ts) 
 abbrev pub all_parts : List TTarget → TTarget
 all_parts xs = target.Parts (ty.Tuple (target_types xs)) xs
 
-unfoldable pub tuple_target : Place → List Node → Option (List Ty) → Outcome TTarget
-tuple_target at ns None = Bad (ask 40 at false)
-tuple_target at ns (Some ts) = and_then (targets at ns ts) (λ xs. Good (all_parts xs))
+-- 18. The type of a tuple on the left of `=` has at most 2^28 bytes too.
+unfoldable pub small_target : List Aggregate → Place → List TTarget → Outcome TTarget
+small_target rows at xs = judge (ask 18 at (rule_18_tuple rows (target_types xs))) (all_parts xs)
 
-abbrev pub tuple_aim : List Node → Aim
-tuple_aim ns is_part at t = tuple_target at ns (parts_of t)
+unfoldable pub tuple_target : List Aggregate → Place → List Node → Option (List Ty) → Outcome TTarget
+tuple_target rows at ns None = Bad (ask 40 at false)
+tuple_target rows at ns (Some ts) = and_then (targets at ns ts) (small_target rows at)
+
+abbrev pub tuple_aim : List Aggregate → List Node → Aim
+tuple_aim rows ns is_part at t = tuple_target rows at ns (parts_of t)
 
 -- ---- assignments and sends
 
@@ -141,7 +146,7 @@ step env here (Expr-F.Text at bytes) = record (plain_node env at (text_found at 
 step env here (Expr-F.Nil at) = record (plain_node env at (Good (nil_found at))) { target = nil_aim }
 step env here (Expr-F.Name at name) = record (plain_node env at (named env here at)) { callee = named_callee env here at }
 step env here (Expr-F.Tuple at parts) =
-    record (plain_node env at (and_then (columns (map (operand_of env) parts)) (λ c. Good (tuple c)))) { target = tuple_aim parts }
+    record (plain_node env at (and_then (columns (map (operand_of env) parts)) (small_tuple env.aggregates at))) { target = tuple_aim env.aggregates parts }
 step env here (Expr-F.Unary at op a) = plain_node env at (and_then a.found (unary env.aggregates at op a.at))
 step env here (Expr-F.Cast at to a) = plain_node env at (gives (and_then a.found (cast_to env.aggregates at (written env here to) a.at)))
 step env here (Expr-F.SizeofType at of) = plain_node env at (gives (type_sized env.aggregates at (written env here of)))

@@ -3,6 +3,7 @@ ghost use Rattle.std.specs.Prelude.{◌≡◌, map};
 ghost use Rattle.std.specs.Option.{option_copied};
 ghost use Rattle.al_rules.specs.Outcome.{Answers, pair};
 ghost use Rattle.al_tree.specs.declared.expression.Expr.TheVariants as tree;
+ghost use Rattle.al_typed.specs.Layout.{IsLaidOut};
 ghost use Rattle.al_type_expr.specs.Lists as lists;
 ghost use Rattle.al_type_expr.specs.Nodes as spec;
 ghost use Rattle.al_type_expr.specs.Nodes.{node};
@@ -12,7 +13,9 @@ use crate::leaves::{
     assigned_to, character, expr_place, iterator_found, nil_found, nil_target, number,
     place_target, target_rule, text_found,
 };
-use crate::lists::{all_parts, and_part, more, no_columns, only, printed_value, sequenced, tuple};
+use crate::lists::{
+    and_part, more, no_columns, only, printed_value, sequenced, small_target, small_tuple,
+};
 use crate::parts::{
     cast_to, compound, member_callee, member_found, postfix_found, size_written, unary,
 };
@@ -39,6 +42,7 @@ pub fn value_of(
     here: &Here,
     e: &Expr,
 ) -> Result<Operand, TypeStop>
+    requires { IsLaidOut env.now.aggregates }
     ensures { Answers result (spec.value_of env.now here.now e.now) }
 {
     let f = found(alloc, env, here, e)?;
@@ -54,6 +58,7 @@ pub fn dropped_value(
     here: &Here,
     e: &Expr,
 ) -> Result<TExpr, TypeStop>
+    requires { IsLaidOut env.now.aggregates }
     ensures { Answers result (spec.dropped_value env.now here.now e.now) }
 {
     let f = found(alloc, env, here, e)?;
@@ -69,6 +74,7 @@ pub fn place_in(
     at: Place,
     e: &Expr,
 ) -> Result<TPlace, TypeStop>
+    requires { IsLaidOut env.now.aggregates }
     ensures { Answers result (spec.place_in at (node env.now here.now e.now)) }
 {
     let f = found(alloc, env, here, e)?;
@@ -85,6 +91,7 @@ fn values(
     a: &Expr,
     b: &Expr,
 ) -> Result<(Operand, Operand), TypeStop>
+    requires { IsLaidOut env.now.aggregates }
     ensures { Answers result (pair (spec.value_of env.now here.now a.now) (spec.value_of env.now here.now b.now)) }
 {
     let x = value_of(alloc, env, here, a);
@@ -102,6 +109,7 @@ fn found_and_value(
     a: &Expr,
     b: &Expr,
 ) -> Result<(Found, Operand), TypeStop>
+    requires { IsLaidOut env.now.aggregates }
     ensures { Answers result (pair (spec.found env.now here.now a.now) (spec.value_of env.now here.now b.now)) }
 {
     let f = found(alloc, env, here, a);
@@ -113,6 +121,7 @@ fn found_and_value(
 #[cycle(expr)]
 #[tactic(auto, using(crate::proofs::NodesAre::callee_is, al_rules::proofs::Permits::permitted))]
 fn callee(alloc: Global, env: &Environment, here: &Here, e: &Expr) -> Result<Callee, TypeStop>
+    requires { IsLaidOut env.now.aggregates }
     ensures { Answers result (node env.now here.now e.now).callee }
 {
     match e {
@@ -143,6 +152,7 @@ fn columns(
     here: &Here,
     parts: &[Expr],
 ) -> Result<Columns, TypeStop>
+    requires { IsLaidOut env.now.aggregates }
     ensures { Answers result (lists.columns (map (spec.value_of env.now here.now) parts.now)) }
 {
     let mut done = no_columns(alloc);
@@ -163,6 +173,7 @@ fn each_dropped(
     here: &Here,
     parts: &[Expr],
 ) -> Result<Items<TExpr>, TypeStop>
+    requires { IsLaidOut env.now.aggregates }
     ensures { Answers result (lists.each (map (spec.dropped_value env.now here.now) parts.now)) }
 {
     let mut done = Items::new(alloc);
@@ -185,6 +196,7 @@ fn argument(
     parameter: &Ty,
     written: &Expr,
 ) -> Result<TExpr, TypeStop>
+    requires { IsLaidOut env.now.aggregates }
     ensures { Answers result (lists.argument at parameter.now (spec.value_of env.now here.now written.now)) }
 {
     let x = value_of(alloc, env, here, written)?;
@@ -202,6 +214,7 @@ fn arguments<'a>(
     written: &[Expr],
     mut parameters: &'a [Ty],
 ) -> Result<Items<TExpr>, TypeStop>
+    requires { IsLaidOut env.now.aggregates }
     ensures { Answers result (lists.arguments at parameters.entry.now (map (spec.value_of env.now here.now) written.now)) }
 {
     let mut done = Items::new(alloc);
@@ -229,6 +242,7 @@ fn print_of(
     here: &Here,
     written: &Expr,
 ) -> Result<TExpr, TypeStop>
+    requires { IsLaidOut env.now.aggregates }
     ensures { Answers result (lists.print_of (spec.value_of env.now here.now written.now)) }
 {
     let x = value_of(alloc, env, here, written)?;
@@ -244,6 +258,7 @@ fn prints(
     here: &Here,
     written: &[Expr],
 ) -> Result<Items<TExpr>, TypeStop>
+    requires { IsLaidOut env.now.aggregates }
     ensures { Answers result (lists.prints (map (spec.value_of env.now here.now) written.now)) }
 {
     let mut done = Items::new(alloc);
@@ -266,6 +281,7 @@ fn format_call(
     format: &[u8],
     written: &[Expr],
 ) -> Result<TExpr, TypeStop>
+    requires { IsLaidOut env.now.aggregates }
     ensures { Answers result (spec.format_call env.now at (Some format.now) (map (node env.now here.now) written.now)) }
 {
     let format = pieces(alloc, format)?;
@@ -285,6 +301,7 @@ fn print_with(
     others: &[Expr],
     first: &Expr,
 ) -> Result<TExpr, TypeStop>
+    requires { IsLaidOut env.now.aggregates }
     ensures { Answers result (spec.format_call env.now at (node env.now here.now first.now).text (map (node env.now here.now) others.now)) }
 {
     match first {
@@ -305,6 +322,7 @@ fn print_call(
     at: Place,
     written: &[Expr],
 ) -> Result<TExpr, TypeStop>
+    requires { IsLaidOut env.now.aggregates }
     ensures { Answers result (spec.print_call env.now at (map (node env.now here.now) written.now)) }
 {
     match written {
@@ -323,6 +341,7 @@ fn terminate_call(
     at: Place,
     written: &[Expr],
 ) -> Result<TExpr, TypeStop>
+    requires { IsLaidOut env.now.aggregates }
     ensures { Answers result (spec.terminate_call env.now at (map (node env.now here.now) written.now)) }
 {
     let [status] = written else {
@@ -343,6 +362,7 @@ fn called(
     written: &[Expr],
     callee: Callee,
 ) -> Result<TExpr, TypeStop>
+    requires { IsLaidOut env.now.aggregates }
     ensures { Answers result (spec.called env.now at (map (node env.now here.now) written.now) callee) }
 {
     match callee {
@@ -394,6 +414,7 @@ fn targets<'a>(
     parts: &[Expr],
     mut types: &'a [Ty],
 ) -> Result<Items<TTarget>, TypeStop>
+    requires { IsLaidOut env.now.aggregates }
     ensures { Answers result (spec.targets at (map (node env.now here.now) parts.now) types.entry.now) }
 {
     let mut done = Items::new(alloc);
@@ -423,13 +444,14 @@ fn tuple_target(
     parts: &[Expr],
     types: Option<&Items<Ty>>,
 ) -> Result<TTarget, TypeStop>
-    ensures { Answers result (spec.tuple_target at (map (node env.now here.now) parts.now) (option_copied types.entry)) }
+    requires { IsLaidOut env.now.aggregates }
+    ensures { Answers result (spec.tuple_target env.now.aggregates at (map (node env.now here.now) parts.now) (option_copied types.entry)) }
 {
     match types {
         None => Err(broken(40, at)),
         Some(types) => {
             let parts = targets(alloc, env, here, at, parts, types.as_slice())?;
-            Ok(all_parts(alloc, parts)?)
+            small_target(alloc, env.aggregates.as_slice(), at, parts)
         }
     }
 }
@@ -446,6 +468,7 @@ fn target(
     e: &Expr,
     ty: &Ty,
 ) -> Result<TTarget, TypeStop>
+    requires { IsLaidOut env.now.aggregates }
     ensures { Answers result ((node env.now here.now e.now).target is_part at ty.now) }
 {
     match e {
@@ -471,6 +494,7 @@ fn assigned(
     a: &Expr,
     b: &Expr,
 ) -> Result<TExpr, TypeStop>
+    requires { IsLaidOut env.now.aggregates }
     ensures { Answers result (spec.assigned env.now at (node env.now here.now a.now) (node env.now here.now b.now)) }
 {
     let x = value_of(alloc, env, here, b)?;
@@ -491,6 +515,7 @@ fn assignment(
     a: &Expr,
     b: &Expr,
 ) -> Result<TExpr, TypeStop>
+    requires { IsLaidOut env.now.aggregates }
     ensures { Answers result (spec.assignment env.now at op (node env.now here.now a.now) (node env.now here.now b.now)) }
 {
     match op {
@@ -516,10 +541,11 @@ fn tuple_node(
     at: Place,
     parts: &[Expr],
 ) -> Result<Found, TypeStop>
+    requires { IsLaidOut env.now.aggregates }
     ensures { Answers result (spec.found env.now here.now (tree.Tuple at parts.now)) }
 {
     let parts = columns(alloc, env, here, parts)?;
-    Ok(tuple(parts))
+    small_tuple(env.aggregates.as_slice(), at, parts)
 }
 
 /// An operator before its operand.
@@ -533,6 +559,7 @@ fn unary_node(
     op: UnaryOp,
     of: &Expr,
 ) -> Result<Found, TypeStop>
+    requires { IsLaidOut env.now.aggregates }
     ensures { Answers result (spec.found env.now here.now (tree.Unary at op of.now)) }
 {
     let f = found(alloc, env, here, of)?;
@@ -550,6 +577,7 @@ fn cast_node(
     to: &TypeTree,
     of: &Expr,
 ) -> Result<Found, TypeStop>
+    requires { IsLaidOut env.now.aggregates }
     ensures { Answers result (spec.found env.now here.now (tree.Cast at to.now of.now)) }
 {
     let to = written_type(alloc, env, here, to)?;
@@ -569,6 +597,7 @@ fn sizeof_node(
     at: Place,
     of: &Expr,
 ) -> Result<Found, TypeStop>
+    requires { IsLaidOut env.now.aggregates }
     ensures { Answers result (spec.found env.now here.now (tree.SizeofValue at of.now)) }
 {
     let f = found(alloc, env, here, of)?;
@@ -587,6 +616,7 @@ fn index_node(
     of: &Expr,
     by: &Expr,
 ) -> Result<Found, TypeStop>
+    requires { IsLaidOut env.now.aggregates }
     ensures { Answers result (spec.found env.now here.now (tree.Index at of.now by.now)) }
 {
     let (x, y) = values(alloc, env, here, of, by)?;
@@ -606,6 +636,7 @@ fn member_node(
     how: Access,
     name: Name,
 ) -> Result<Found, TypeStop>
+    requires { IsLaidOut env.now.aggregates }
     ensures { Answers result (spec.found env.now here.now (tree.Member at of.now how name)) }
 {
     let f = found(alloc, env, here, of)?;
@@ -623,6 +654,7 @@ fn call_node(
     written: &[Expr],
     f: &Expr,
 ) -> Result<Found, TypeStop>
+    requires { IsLaidOut env.now.aggregates }
     ensures { Answers result (spec.found env.now here.now (tree.Call at f.now written.now)) }
 {
     let f = callee(alloc, env, here, f)?;
@@ -641,6 +673,7 @@ fn postfix_node(
     op: PostfixOp,
     of: &Expr,
 ) -> Result<Found, TypeStop>
+    requires { IsLaidOut env.now.aggregates }
     ensures { Answers result (spec.found env.now here.now (tree.Postfix at op of.now)) }
 {
     let f = found(alloc, env, here, of)?;
@@ -659,6 +692,7 @@ fn binary_node(
     a: &Expr,
     b: &Expr,
 ) -> Result<Found, TypeStop>
+    requires { IsLaidOut env.now.aggregates }
     ensures { Answers result (spec.found env.now here.now (tree.Binary at op a.now b.now)) }
 {
     let (x, y) = values(alloc, env, here, a, b)?;
@@ -678,6 +712,7 @@ fn assign_node(
     a: &Expr,
     b: &Expr,
 ) -> Result<Found, TypeStop>
+    requires { IsLaidOut env.now.aggregates }
     ensures { Answers result (spec.found env.now here.now (tree.Assign at op a.now b.now)) }
 {
     let e = assignment(alloc, env, here, at, op, a, b)?;
@@ -694,6 +729,7 @@ fn sequence_node(
     at: Place,
     parts: &[Expr],
 ) -> Result<Found, TypeStop>
+    requires { IsLaidOut env.now.aggregates }
     ensures { Answers result (spec.found env.now here.now (tree.Sequence at parts.now)) }
 {
     let parts = each_dropped(alloc, env, here, parts)?;
@@ -705,6 +741,7 @@ fn sequence_node(
 #[cycle(expr)]
 #[tactic(auto, using(crate::proofs::NodesAre::leaves_are))]
 pub fn found(alloc: Global, env: &Environment, here: &Here, e: &Expr) -> Result<Found, TypeStop>
+    requires { IsLaidOut env.now.aggregates }
     ensures { Answers result (spec.found env.now here.now e.now) }
 {
     match e {

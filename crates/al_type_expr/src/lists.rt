@@ -1,21 +1,24 @@
 //! Tuples and sequences, once their parts are typed.
-ghost use Rattle.std.specs.Prelude.{◌≡◌, ◌++◌, ◌∷◌, [], IfOk};
+ghost use Rattle.std.specs.Prelude.{◌≡◌, ◌++◌, ◌∷◌, [], IfOk, nat_le};
 ghost use Rattle.al_rules.specs.Outcome.{Answers};
+ghost use Rattle.al_typed.specs.Layout.{IsLaidOut, size_of};
 ghost use Rattle.al_typed.specs.Typed.{type_of};
 ghost use Rattle.al_operators.specs.Operators.{printable as printable_of};
+ghost use Rattle.al_typed.specs.declared.ty.Ty.TheVariants as ty;
+ghost use Rattle.al_type_nodes.specs.declared.found.Found.TheVariants as found;
 ghost use Rattle.al_type_expr.specs.Lists as spec;
 ghost use Rattle.al_type_expr.specs.Lists.{with_last_part};
-ghost use Rattle.al_type_expr.specs.Nodes.{all_parts as tuple_of_targets};
+ghost use Rattle.al_type_expr.specs.Nodes as nodes;
 
 use crate::columns::Columns;
 use al_base::{NoMemory, Place};
 use al_convert::Literal;
 use al_items::{Boxed, Items};
-use al_operands::{Operand, beside, both, present};
+use al_operands::{Operand, asked, beside, both, present};
 use al_operators::printable;
 use al_rules::TypeStop;
 use al_type_nodes::Found;
-use al_typed::{TExpr, TTarget, Ty};
+use al_typed::{Aggregate, TExpr, TTarget, Ty, room_of};
 use std::alloc::Global;
 
 /// A list with one more at its end.
@@ -83,10 +86,20 @@ pub(crate) fn and_part(alloc: Global, columns: Columns, x: Operand) -> Result<Co
     })
 }
 
+/// Whether a type has at most 2^28 bytes.
+#[tactic(auto, using(crate::proofs::SizesAre::small_size))]
+fn is_small(rows: &[Aggregate], ty: &Ty) -> bool
+    requires { IsLaidOut rows.now }
+    ensures { result ≡ nat_le (size_of rows.now ty.now) 268435456 }
+{
+    room_of(rows, ty).size <= 268_435_456
+}
+
 /// The tuple of these parts.
 #[tactic(auto, unfolding(crate::specs::Lists::tuple))]
-pub(crate) fn tuple(columns: Columns) -> Found
-    ensures { result ≡ spec.tuple columns }
+fn tuple(columns: Columns) -> Operand
+    ensures found { spec.tuple columns ≡ found.Value result }
+    ensures types { type_of result.value ≡ ty.Tuple columns.types }
 {
     let Columns {
         types,
@@ -97,10 +110,25 @@ pub(crate) fn tuple(columns: Columns) -> Found
         ty: Ty::Tuple(types),
         parts: values,
     };
-    Found::Value(Operand {
+    Operand {
         value,
         written: Literal::Tuple(written),
-    })
+    }
+}
+
+/// The tuple of these parts, which stands at that place, where its type has at most 2^28 bytes.
+#[tactic(auto, unfolding(crate::specs::Lists::small_tuple))]
+pub(crate) fn small_tuple(
+    rows: &[Aggregate],
+    at: Place,
+    columns: Columns,
+) -> Result<Found, TypeStop>
+    requires { IsLaidOut rows.now }
+    ensures { Answers result (spec.small_tuple rows.now at columns) }
+{
+    let x = tuple(columns);
+    let is_small = is_small(rows, x.value.ty());
+    asked(18, at, is_small, Found::Value(x))
 }
 
 #[tactic(auto, unfolding(crate::specs::Lists::sequence))]
@@ -138,11 +166,27 @@ fn target_types(alloc: Global, parts: &[TTarget]) -> Result<Items<Ty>, NoMemory>
 }
 
 /// Targets in parentheses.
-pub(crate) fn all_parts(alloc: Global, parts: Items<TTarget>) -> Result<TTarget, NoMemory>
-    ensures { IfOk result (λ t. t ≡ tuple_of_targets parts) }
+fn all_parts(alloc: Global, parts: Items<TTarget>) -> Result<TTarget, NoMemory>
+    ensures { IfOk result (λ t. t ≡ nodes.all_parts parts) }
 {
     let types = target_types(alloc, parts.as_slice());
     let (parts, types) = beside(parts, types)?;
     let ty = Ty::Tuple(types);
     Ok(TTarget::Parts { ty, parts })
+}
+
+/// Targets in parentheses, which `=` at that place gives values, where their type has at most 2^28 bytes.
+#[tactic(auto, unfolding(crate::specs::Nodes::small_target), using(al_rules::proofs::Permits::permitted))]
+pub(crate) fn small_target(
+    alloc: Global,
+    rows: &[Aggregate],
+    at: Place,
+    parts: Items<TTarget>,
+) -> Result<TTarget, TypeStop>
+    requires { IsLaidOut rows.now }
+    ensures { Answers result (nodes.small_target rows.now at parts) }
+{
+    let all = all_parts(alloc, parts)?;
+    let is_small = is_small(rows, all.ty());
+    asked(18, at, is_small, all)
 }

@@ -11,7 +11,9 @@ use Rattle.al_environment.specs.declared.environment.Variable.{Variable}
 use Rattle.al_environment.specs.declared.environment.Round.{Round}
 use Rattle.al_environment.specs.declared.environment.Here.{Here}
 use Rattle.al_environment.specs.declared.environment.Environment.{Environment}
+use Rattle.al_body_parts.specs.declared.parts.Parts.{Parts}
 use Rattle.al_body_parts.specs.Statements.{parts}
+use Rattle.al_rules.specs.declared.fault.TypeFault.{TypeFault}
 use Rattle.al_type_stmt.specs.declared.within.Within.{Within}
 use Rattle.al_type_stmt.specs.Statements.{branch_at, statement}
 use Rattle.al_type_function.specs.declared.frame.Frame.{Frame}
@@ -19,7 +21,7 @@ use Rattle.al_type_function.specs.declared.outline.Outline.{Outline}
 use Rattle.al_type_function.specs.declared.site.Site.{Site}
 use Rattle.al_type_function.specs.declared.branch.NumberedBranch.{NumberedBranch}
 use Rattle.al_type_function.specs.Numbers.{capped}
-use Rattle.al_type_function.specs.Locals.{declared_local, locals_faults, frame_of}
+use Rattle.al_type_function.specs.Locals.{declared_local, locals_faults, types_faults, frame_of}
 
 -- ---- where a statement begins
 
@@ -115,15 +117,20 @@ branch_outline site s f = record {
 abbrev pub numbered_branch : ℕ × Outline → TStmt → NumberedBranch
 numbered_branch p body = record { number = p.0; function = with_body p.1 body }
 
+-- what breaks rule 18 in a branch, and in the types as wholes
+abbrev pub frame_faults : Environment → Stmt → Parts → Frame → List TypeFault
+frame_faults env s p f = locals_faults env.aggregates (place s) f.locals ++ types_faults env.aggregates (place s) f.locals p.types
+
 module _ (env : Environment) (names : List (List ℕ)) where
   -- A branch has no parameters, and its own locals and labels.
+  abbrev pub frame_with : Site → Stmt → Parts → Frame
+  frame_with site s p = frame_of names env.scopes.names (length site.around) s (map declared_local p.locals) (length p.labels)
+
   unfoldable pub branch_frame : Site → Stmt → Frame
-  branch_frame site s =
-      let p = parts env site.here s in
-      frame_of names env.scopes.names (length site.around) s (map declared_local p.locals) (length p.labels)
+  branch_frame site s = frame_with site s (parts env site.here s)
 
   unfoldable pub framed : Site → Stmt → Outcome Frame
-  framed site s = let f = branch_frame site s in judge (locals_faults env.aggregates (place s) f.locals) f
+  framed site s = let p = parts env site.here s in let f = frame_with site s p in judge (frame_faults env s p f) f
 
   -- where the statements of the branch of that number stand
   abbrev pub inner_site : Site → Stmt → ℕ → Site

@@ -32,7 +32,7 @@ use Rattle.al_type_function.specs.declared.opened.Opened.{Opened}
 use Rattle.al_type_function.specs.declared.function.TypedFunction.{TypedFunction}
 use Rattle.al_type_function.specs.Numbers.{capped}
 use Rattle.al_type_function.specs.Own.{own_adt}
-use Rattle.al_type_function.specs.Locals.{bytes_of, declared_parameters, declared_local, locals_faults, frame_of}
+use Rattle.al_type_function.specs.Locals.{bytes_of, declared_parameters, declared_local, locals_faults, types_faults, result_faults, frame_of}
 use Rattle.al_type_function.specs.Texts.{bytes_in, numbered}
 use Rattle.al_type_function.specs.Branches.{with_body, branches}
 
@@ -86,8 +86,10 @@ typed_with o p = record { function = with_body o.outline p.0; branches = p.1; te
 
 module _ (env : Environment) where
   -- rule 18 is asked at the function's name
-  abbrev pub faults_of : Head → Parts → Frame → List TypeFault
-  faults_of head p f = p.faults ++ locals_faults env.aggregates head.name.at f.locals
+  abbrev pub faults_of : Head → (returns : Ty) → Parts → Frame → List TypeFault
+  faults_of head returns p f =
+      p.faults ++ (locals_faults env.aggregates head.name.at f.locals
+      ++ (types_faults env.aggregates head.name.at f.locals p.types ++ result_faults env.aggregates head.name.at returns))
 
   module _ (names : List (List ℕ)) where
     abbrev pub function_frame : Head → Stmt → Signature → Parts → Frame
@@ -98,7 +100,7 @@ module _ (env : Environment) where
         let s = signature env here base head.stars head.parameters in
         let p = parts env here body in
         let f = function_frame head body s p in
-        judge (faults_of head p f) (opened_with names numbers head here.own s.returns p f)
+        judge (faults_of head s.returns p f) (opened_with names numbers head here.own s.returns p f)
 
     abbrev pub opened : FunctionNumbers → TypeTree → Head → Stmt → Outcome Opened
     opened numbers base head body = opened_in numbers base head body (here_in (own_adt env head.owner numbers.instance))

@@ -14,7 +14,8 @@ use Rattle.al_typed.specs.declared.program.Aggregate.{Aggregate}
 use Rattle.al_typed.specs.declared.program.Local.{Local}
 use Rattle.al_typed.specs.Types.{may_be_private}
 use Rattle.al_typed.specs.Layout.{in_order, layout}
-use Rattle.al_typed.specs.WellTyped.{shared_types}
+use Rattle.al_typed.specs.WellTyped.{is_sound, shared_types}
+use Rattle.al_sound_types.specs.Types.{types_hold}
 use Rattle.al_environment.specs.declared.environment.Variable.{Variable}
 use Rattle.al_type_rules.specs.Types.{known}
 use Rattle.al_body_parts.specs.declared.parts.DeclaredLocal.{DeclaredLocal}
@@ -76,6 +77,15 @@ rule_18_locals rows ls = nat_le (in_order (map (layout rows) (shared_types ls)))
 
 abbrev pub locals_faults : List Aggregate → Place → List Local → List TypeFault
 locals_faults rows at ls = ask 18 at (rule_18_locals rows ls)
+
+-- Parameters and locals are stored, and the types that are written in a body are sound. The rules that say so are asked where a type is written, at the
+-- place of what breaks them. Here they are asked of types as wholes, behind all others.
+abbrev pub types_faults : List Aggregate → Place → List Local → (written : List Ty) → List TypeFault
+types_faults rows at ls written = ask 18 at (types_hold rows ls written)
+
+-- and so is what a function returns
+abbrev pub result_faults : List Aggregate → Place → (returns : Ty) → List TypeFault
+result_faults rows at returns = ask 18 at (is_sound rows returns)
 
 -- ---- both, of a function or branch with that body, round which so many functions are, and which has so many labels
 

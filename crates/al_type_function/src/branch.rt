@@ -9,13 +9,13 @@ use crate::frame::{Frame, frame_of};
 use crate::locals::push_locals;
 use crate::outline::{Outline, with_body};
 use crate::place::place_of;
-use crate::rule::ask_locals;
+use crate::rule::{ask_locals, ask_types};
 use crate::site::{Site, enter};
 use al_base::{NoMemory, Place};
-use al_body_parts::body_parts;
+use al_body_parts::{Parts, body_parts};
 use al_environment::{Environment, Variable};
 use al_items::Items;
-use al_rules::{TypeStop, broken, judged};
+use al_rules::{TypeFault, TypeStop, broken, judged};
 use al_tree::Stmt;
 use al_type_stmt::{Choice, Within, statement};
 use al_typed::{Function, Ty};
@@ -28,19 +28,17 @@ pub struct NumberedBranch {
     pub function: Function,
 }
 
-/// The parameters and locals of a branch: it has no parameters.
-#[tactic(auto, unfolding(crate::specs::Branches::branch_frame))]
+/// The parameters and locals of a branch of which that was gathered: it has no parameters.
 fn branch_frame(
     alloc: Global,
     env: &Environment,
     names: &[Items<u8>],
     site: &Site,
     s: &Stmt,
+    found: &Parts,
 ) -> Result<Frame, NoMemory>
-    requires { IsLaidOut env.now.aggregates }
-    ensures { IfOk result (λ f. f ≡ spec.branch_frame env.now names.now site.now s.now) }
+    ensures { IfOk result (λ f. f ≡ spec.frame_with env.now names.now site.now s.now found.now) }
 {
-    let found = body_parts(alloc, env, &site.here, s)?;
     let mut declared = Items::new(alloc);
     push_locals(alloc, found.locals.as_slice(), &mut declared)?;
     let round = site.around.len();
@@ -56,8 +54,33 @@ fn branch_frame(
     )
 }
 
+/// What breaks rule 18 in it, and in the types as wholes.
+fn faults_of(
+    alloc: Global,
+    env: &Environment,
+    s: &Stmt,
+    found: &Parts,
+    frame: &Frame,
+) -> Result<Items<TypeFault>, NoMemory>
+    requires { IsLaidOut env.now.aggregates }
+    ensures { IfOk result (λ fs. fs ≡ spec.frame_faults env.now s.now found.now frame.now) }
+{
+    let mut faults = Items::new(alloc);
+    let rows = env.aggregates.as_slice();
+    let at = place_of(s);
+    ask_locals(alloc, rows, at, frame.locals.as_slice(), &mut faults)?;
+    ask_types(
+        rows,
+        at,
+        frame.locals.as_slice(),
+        found.types.as_slice(),
+        &mut faults,
+    )?;
+    Ok(faults)
+}
+
 /// The same where it keeps rule 18.
-#[tactic(auto, unfolding(crate::specs::Branches::framed), using(al_rules::proofs::Permits::permitted))]
+#[tactic(auto, unfolding(crate::specs::Branches::framed, crate::specs::Branches::branch_frame), using(al_rules::proofs::Permits::permitted))]
 fn framed(
     alloc: Global,
     env: &Environment,
@@ -69,15 +92,9 @@ fn framed(
     ensures answer { Answers result (spec.framed env.now names.now site.now s.now) }
     ensures frame { IfOk result (λ f. f ≡ spec.branch_frame env.now names.now site.now s.now) }
 {
-    let frame = branch_frame(alloc, env, names, site, s)?;
-    let mut faults = Items::new(alloc);
-    ask_locals(
-        alloc,
-        env.aggregates.as_slice(),
-        place_of(s),
-        frame.locals.as_slice(),
-        &mut faults,
-    )?;
+    let found = body_parts(alloc, env, &site.here, s)?;
+    let frame = branch_frame(alloc, env, names, site, s, &found)?;
+    let faults = faults_of(alloc, env, s, &found, &frame)?;
     judged(faults.as_slice(), frame)
 }
 

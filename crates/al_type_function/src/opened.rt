@@ -9,7 +9,7 @@ use crate::locals::{bytes_of, push_locals, push_parameters};
 use crate::numbers::{FunctionNumbers, capped};
 use crate::outline::Outline;
 use crate::own::{here_in, own_adt};
-use crate::rule::ask_locals;
+use crate::rule::{ask_locals, ask_result, ask_types};
 use crate::texts::{text_bytes, text_numbers};
 use al_base::NoMemory;
 use al_body_parts::{Parts, body_parts};
@@ -96,11 +96,12 @@ fn faults_of(
     alloc: Global,
     env: &Environment,
     head: &Head,
+    returns: &Ty,
     p: &Parts,
     frame: &Frame,
 ) -> Result<Items<TypeFault>, NoMemory>
     requires { IsLaidOut env.now.aggregates }
-    ensures { IfOk result (λ fs. fs ≡ spec.faults_of env.now head.now p.now frame.now) }
+    ensures { IfOk result (λ fs. fs ≡ spec.faults_of env.now head.now returns.now p.now frame.now) }
 {
     let mut faults = Items::from_slice(alloc, p.faults.as_slice())?;
     ask_locals(
@@ -110,6 +111,14 @@ fn faults_of(
         frame.locals.as_slice(),
         &mut faults,
     )?;
+    ask_types(
+        env.aggregates.as_slice(),
+        head.name.at,
+        frame.locals.as_slice(),
+        p.types.as_slice(),
+        &mut faults,
+    )?;
+    ask_result(env.aggregates.as_slice(), head.name.at, returns, &mut faults)?;
     Ok(faults)
 }
 
@@ -177,7 +186,7 @@ fn open_in(
     )?;
     let p = body_parts(alloc, env, &here, body)?;
     let frame = function_frame(alloc, env, names, head, body, &s, &p)?;
-    let faults = faults_of(alloc, env, head, &p, &frame)?;
+    let faults = faults_of(alloc, env, head, &s.returns, &p, &frame)?;
     let Here {
         own,
         locals: _,

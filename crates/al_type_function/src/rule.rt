@@ -1,4 +1,4 @@
-//! Typing rule 18 of shared locals.
+//! Typing rule 18 of shared locals, and types as wholes.
 ghost use Rattle.std.specs.Prelude.{◌≡◌, ◌++◌, nat_le, map, IfOk, OnOk};
 ghost use Rattle.al_typed.specs.Layout.{IsLaidOut, in_order as ordered, layout};
 ghost use Rattle.al_typed.specs.WellTyped as typed;
@@ -7,6 +7,7 @@ ghost use Rattle.al_type_function.specs.Locals as spec;
 use al_base::{NoMemory, Place};
 use al_items::Items;
 use al_rules::{TypeFault, ask};
+use al_sound_types::{is_sound, types_hold};
 use al_typed::{Aggregate, Local, Ty, in_order};
 use std::alloc::Global;
 
@@ -62,4 +63,31 @@ pub(crate) fn ask_locals(
 {
     let holds = rule_18_locals(alloc, rows, locals)?;
     ask(faults, 18, at, holds)
+}
+
+/// Asks whether the function or branch at a place may have these locals and write these types.
+pub(crate) fn ask_types(
+    rows: &[Aggregate],
+    at: Place,
+    locals: &[Local],
+    written: &[Ty],
+    faults: &mut Items<TypeFault>,
+) -> Result<(), NoMemory>
+    requires { IsLaidOut rows.now }
+    ensures { OnOk result (faults.new ≡ faults.old ++ spec.types_faults rows.now at locals.now written.now) }
+{
+    ask(faults, 18, at, types_hold(rows, locals, written))
+}
+
+/// Asks whether the function at a place may return that type.
+pub(crate) fn ask_result(
+    rows: &[Aggregate],
+    at: Place,
+    returns: &Ty,
+    faults: &mut Items<TypeFault>,
+) -> Result<(), NoMemory>
+    requires { IsLaidOut rows.now }
+    ensures { OnOk result (faults.new ≡ faults.old ++ spec.result_faults rows.now at returns.now) }
+{
+    ask(faults, 18, at, is_sound(rows, returns))
 }

@@ -2,6 +2,7 @@
 ghost use Rattle.std.specs.Prelude.{◌≡◌, ◌++◌, ◌∷◌, [], true, OnOk, IfOk, IfErr};
 ghost use Rattle.std.specs.List.{flat_map};
 ghost use Rattle.al_rules.specs.Outcome.{Answers, permits};
+ghost use Rattle.al_typed.specs.Layout.{IsLaidOut};
 ghost use Rattle.al_type_stmt.specs.Iterators as spec;
 ghost use Rattle.al_type_stmt.specs.Iterators.{iterators};
 
@@ -34,6 +35,7 @@ fn bounds_at(
     a: &Expr,
     b: &Expr,
 ) -> Result<TBounds, TypeStop>
+    requires { IsLaidOut env.now.aggregates }
     ensures { Answers result (spec.bounds_at env.now here.now at a.now b.now) }
 {
     let x = value_of(alloc, env, here, a);
@@ -84,6 +86,7 @@ fn gather_one(
     b: &Expr,
     met: Gathered,
 ) -> Result<Gathered, TypeStop>
+    requires { IsLaidOut env.now.aggregates }
     ensures { Answers result (spec.gathering met (spec.spread env.now here.now at a.now b.now ∷ [])) }
 {
     let bounds = bounds_at(alloc, env, here, at, a, b);
@@ -102,6 +105,7 @@ fn gather_two(
     b: &Expr,
     met: Gathered,
 ) -> Result<Gathered, TypeStop>
+    requires { IsLaidOut env.now.aggregates }
     ensures { Answers result (spec.gathering met (iterators env.now here.now a.now ++ iterators env.now here.now b.now)) }
 {
     let met = gather(alloc, env, here, a, met)?;
@@ -118,6 +122,7 @@ fn gather_all(
     parts: &[Expr],
     met: Gathered,
 ) -> Result<Gathered, TypeStop>
+    requires { IsLaidOut env.now.aggregates }
     ensures { Answers result (spec.gathering met (flat_map (iterators env.now here.now) parts.now)) }
 {
     let mut met = met;
@@ -138,6 +143,7 @@ fn gather_call(
     callee: &Expr,
     met: Gathered,
 ) -> Result<Gathered, TypeStop>
+    requires { IsLaidOut env.now.aggregates }
     ensures { Answers result (spec.gathering met (iterators env.now here.now callee.now ++ flat_map (iterators env.now here.now) arguments.now)) }
 {
     let met = gather(alloc, env, here, callee, met)?;
@@ -154,6 +160,7 @@ fn gather(
     e: &Expr,
     met: Gathered,
 ) -> Result<Gathered, TypeStop>
+    requires { IsLaidOut env.now.aggregates }
     ensures { Answers result (spec.gathering met (iterators env.now here.now e.now)) }
 {
     match e {
@@ -196,6 +203,7 @@ fn all_iterators(
     here: &Here,
     e: &Expr,
 ) -> Result<Gathered, TypeStop>
+    requires { IsLaidOut env.now.aggregates }
     ensures ok { IfOk result (λ g. spec.IsGathered g (iterators env.now here.now e.now)) }
     ensures stop { IfErr result (λ s. permits (spec.all_bounds (iterators env.now here.now e.now)) s ≡ true) }
 {
@@ -215,7 +223,8 @@ pub(crate) fn value_statement(
     line: u32,
     e: &Expr,
 ) -> Result<TStmt, TypeStop>
-    requires { here.old.iterators ≡ [] }
+    requires laid { IsLaidOut env.now.aggregates }
+    requires none { here.old.iterators ≡ [] }
     ensures answer { Answers result (spec.value_statement env.now here.old line e.now) }
     ensures same { here.new ≡ here.old }
 {

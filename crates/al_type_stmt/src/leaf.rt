@@ -27,6 +27,7 @@ pub(crate) fn condition_of(
     here: &Here,
     e: &Expr,
 ) -> Result<TExpr, TypeStop>
+    requires { IsLaidOut env.now.aggregates }
     ensures { Answers result (spec.condition_of env.now here.now e.now) }
 {
     let x = value_of(alloc, env, here, e)?;
@@ -41,6 +42,7 @@ fn optional_condition(
     here: &Here,
     e: Option<&Expr>,
 ) -> Result<Option<TExpr>, TypeStop>
+    requires { IsLaidOut env.now.aggregates }
     ensures { Answers result (optional (spec.condition_of env.now here.now) (option_copied e.entry)) }
 {
     match e {
@@ -60,6 +62,7 @@ fn optional_value(
     here: &Here,
     e: Option<&Expr>,
 ) -> Result<Option<TExpr>, TypeStop>
+    requires { IsLaidOut env.now.aggregates }
     ensures { Answers result (optional (dropped env.now here.now) (option_copied e.entry)) }
 {
     match e {
@@ -80,6 +83,7 @@ fn for_rest(
     condition: Option<&Expr>,
     step: Option<&Expr>,
 ) -> Result<(Option<TExpr>, Option<TExpr>), TypeStop>
+    requires { IsLaidOut env.now.aggregates }
     ensures { Answers result (spec.for_rest env.now here.now (option_copied condition.entry) (option_copied step.entry)) }
 {
     let condition = optional_condition(alloc, env, here, condition);
@@ -97,6 +101,7 @@ pub(crate) fn for_head(
     condition: Option<&Expr>,
     step: Option<&Expr>,
 ) -> Result<(Option<TExpr>, (Option<TExpr>, Option<TExpr>)), TypeStop>
+    requires { IsLaidOut env.now.aggregates }
     ensures { Answers result (spec.for_head env.now here.now (option_copied start.entry) (option_copied condition.entry) (option_copied step.entry)) }
 {
     let start = optional_value(alloc, env, here, start);
@@ -113,6 +118,7 @@ pub(crate) fn check_at(
     at: Place,
     e: &Expr,
 ) -> Result<TStmt, TypeStop>
+    requires { IsLaidOut env.now.aggregates }
     ensures { Answers result (spec.check_at env.now here.now at e.now) }
 {
     let value = condition_of(alloc, env, here, e)?;
@@ -130,6 +136,7 @@ fn optional_operand(
     here: &Here,
     e: Option<&Expr>,
 ) -> Result<Option<Operand>, TypeStop>
+    requires { IsLaidOut env.now.aggregates }
     ensures { Answers result (optional (valued env.now here.now) (option_copied e.entry)) }
 {
     match e {
@@ -163,6 +170,7 @@ pub(crate) fn return_at(
     at: Place,
     e: Option<&Expr>,
 ) -> Result<TStmt, TypeStop>
+    requires { IsLaidOut env.now.aggregates }
     ensures { Answers result (spec.return_at w.now env.now here.now at (option_copied e.entry)) }
 {
     let x = optional_operand(alloc, env, here, e)?;
@@ -179,6 +187,7 @@ pub(crate) fn become_at(
     at: Place,
     e: &Expr,
 ) -> Result<TStmt, TypeStop>
+    requires { IsLaidOut env.now.aggregates }
     ensures { Answers result (spec.become_at w.now env.now here.now at e.now) }
 {
     let f = found(alloc, env, here, e)?;
@@ -195,6 +204,7 @@ fn alt_case_at(
     at: Place,
     e: &Expr,
 ) -> Result<TStmt, TypeStop>
+    requires { IsLaidOut env.now.aggregates }
     ensures { Answers result (spec.alt_case_at env.now here.now at e.now) }
 {
     let e = dropped_value(alloc, env, here, e)?;

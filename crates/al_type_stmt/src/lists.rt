@@ -2,6 +2,7 @@
 ghost use Rattle.std.specs.Prelude.{◌≡◌, map};
 ghost use Rattle.std.specs.Option.{option_copied};
 ghost use Rattle.al_rules.specs.Outcome.{Answers, preceded};
+ghost use Rattle.al_typed.specs.Layout.{IsLaidOut};
 ghost use Rattle.al_type_expr.specs.Lists.{each};
 ghost use Rattle.al_type_stmt.specs.Statements as spec;
 ghost use Rattle.al_type_stmt.specs.Statements.{part, places};
@@ -41,6 +42,7 @@ fn known_initializer(
     e: &Expr,
     v: &Known,
 ) -> Result<TInitializer, TypeStop>
+    requires { IsLaidOut env.now.aggregates }
     ensures { Answers result (spec.known_initializer env.now here.now at e.now v.now) }
 {
     let x = value_of(alloc, env, here, e)?;
@@ -60,6 +62,7 @@ fn initializer_of(
     at: Place,
     e: &Expr,
 ) -> Result<TInitializer, TypeStop>
+    requires { IsLaidOut env.now.aggregates }
     ensures { Answers result (spec.initializer_of env.now here.now at e.now) }
 {
     match local_named(env, here, at) {
@@ -77,6 +80,7 @@ fn with_initializer(
     v: &Variable,
     done: Items<TInitializer>,
 ) -> Result<Items<TInitializer>, TypeStop>
+    requires { IsLaidOut env.now.aggregates }
     ensures { Answers result (preceded done (each (spec.initializers env.now here.now v.now))) }
 {
     match &v.value {
@@ -98,6 +102,7 @@ pub(crate) fn declared(
     line: u32,
     variables: &[Variable],
 ) -> Result<TStmt, TypeStop>
+    requires { IsLaidOut env.now.aggregates }
     ensures { Answers result (spec.declared env.now here.now line variables.now) }
 {
     let mut done = Items::new(alloc);
@@ -113,6 +118,7 @@ pub(crate) fn declared(
 /// A place behind alloc.
 #[tactic(auto, unfolding(crate::specs::Statements::alloc_place), using(al_rules::proofs::Permits::permitted))]
 fn alloc_place(alloc: Global, env: &Environment, here: &Here, e: &Expr) -> Result<TPlace, TypeStop>
+    requires { IsLaidOut env.now.aggregates }
     ensures { Answers result (spec.alloc_place env.now here.now e.now) }
 {
     let at = expr_place(e);
@@ -128,6 +134,7 @@ fn alloc_places(
     here: &Here,
     es: &[Expr],
 ) -> Result<Items<TPlace>, TypeStop>
+    requires { IsLaidOut env.now.aggregates }
     ensures { Answers result (spec.of_each (spec.alloc_place env.now here.now) es.now) }
 {
     let mut done = Items::new(alloc);
@@ -148,6 +155,7 @@ pub(crate) fn alloc_at(
     at: Place,
     es: &[Expr],
 ) -> Result<TStmt, TypeStop>
+    requires { IsLaidOut env.now.aggregates }
     ensures { Answers result (spec.alloc_at env.now here.now at es.now) }
 {
     let places = alloc_places(alloc, env, here, es)?;
@@ -160,6 +168,7 @@ pub(crate) fn alloc_at(
 /// A value behind unalloc.
 #[tactic(auto, unfolding(crate::specs::Statements::unalloc_value), using(al_rules::proofs::Permits::permitted))]
 fn unalloc_value(alloc: Global, env: &Environment, here: &Here, e: &Expr) -> Result<TExpr, TypeStop>
+    requires { IsLaidOut env.now.aggregates }
     ensures { Answers result (spec.unalloc_value env.now here.now e.now) }
 {
     let x = value_of(alloc, env, here, e)?;
@@ -174,6 +183,7 @@ fn unalloc_values(
     here: &Here,
     es: &[Expr],
 ) -> Result<Items<TExpr>, TypeStop>
+    requires { IsLaidOut env.now.aggregates }
     ensures { Answers result (spec.of_each (spec.unalloc_value env.now here.now) es.now) }
 {
     let mut done = Items::new(alloc);
@@ -194,6 +204,7 @@ pub(crate) fn unalloc_at(
     at: Place,
     es: &[Expr],
 ) -> Result<TStmt, TypeStop>
+    requires { IsLaidOut env.now.aggregates }
     ensures { Answers result (spec.unalloc_at env.now here.now at es.now) }
 {
     let values = unalloc_values(alloc, env, here, es)?;
@@ -206,6 +217,7 @@ pub(crate) fn unalloc_at(
 /// A call behind proc or task.
 #[tactic(auto, unfolding(crate::specs::Statements::start_of), using(al_rules::proofs::Permits::permitted))]
 fn start_of(alloc: Global, env: &Environment, here: &Here, e: &Expr) -> Result<TExpr, TypeStop>
+    requires { IsLaidOut env.now.aggregates }
     ensures { Answers result (spec.start_of env.now here.now e.now) }
 {
     let call = dropped_value(alloc, env, here, e)?;
@@ -220,6 +232,7 @@ fn starts(
     here: &Here,
     es: &[Expr],
 ) -> Result<Items<TExpr>, TypeStop>
+    requires { IsLaidOut env.now.aggregates }
     ensures { Answers result (spec.of_each (spec.start_of env.now here.now) es.now) }
 {
     let mut done = Items::new(alloc);
@@ -240,6 +253,7 @@ pub(crate) fn proc_at(
     at: Place,
     es: &[Expr],
 ) -> Result<TStmt, TypeStop>
+    requires { IsLaidOut env.now.aggregates }
     ensures { Answers result (spec.proc_at env.now here.now at es.now) }
 {
     let calls = starts(alloc, env, here, es)?;
@@ -258,6 +272,7 @@ pub(crate) fn task_at(
     at: Place,
     es: &[Expr],
 ) -> Result<TStmt, TypeStop>
+    requires { IsLaidOut env.now.aggregates }
     ensures { Answers result (spec.task_at env.now here.now at es.now) }
 {
     let calls = starts(alloc, env, here, es)?;
