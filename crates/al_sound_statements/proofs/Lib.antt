@@ -1,0 +1,9 @@
+pub mod StatementLists
+pub mod Known
+pub mod SimpleStatements
+pub mod CasesAre
+pub mod IteratorNumbers
+pub mod IteratorsIn
+pub mod StatementParts
+pub mod StatementTrees
+pub mod StatementsAre

@@ -1,0 +1,8 @@
+// Laws on the typing rules.
+
+ghost use Rattle.al_sound_statements.specs.Statements.{StatementsAreSound};
+
+/// What each tree of a statement gives is well typed, in the body of a switch, of an alt, and elsewhere.
+pub fn statements_are_sound()
+    ensures { StatementsAreSound }
+{}
