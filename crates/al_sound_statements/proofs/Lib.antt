@@ -6,4 +6,7 @@ pub mod IteratorNumbers
 pub mod IteratorsIn
 pub mod StatementParts
 pub mod StatementTrees
+pub mod WrittenTypes
+pub mod FitExpressions
+pub mod FitStatements
 pub mod StatementsAre

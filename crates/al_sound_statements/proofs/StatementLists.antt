@@ -35,6 +35,11 @@ pub every_map : {A B : Type 0} (P : A → Type 0) (Q : B → Type 0) (f : A → 
 every_map P Q f [] h k = tt
 every_map P Q f (x ∷ xs) h k = (k x h.0, every_map P Q f xs h.1 k)
 
+-- what holds also holds so
+pub every_also : {A : Type 0} (P Q : A → Type 0) → ((a : A) → P a → Q a) → (xs : List A) → Every P xs → Every Q xs
+every_also P Q f [] h = tt
+every_also P Q f (x ∷ xs) h = (f x h.0, every_also P Q f xs h.1)
+
 length_map : {A B : Type 0} (f : A → B) (xs : List A) → length (map f xs) ≡ length xs
 length_map f [] = refl
 length_map f (x ∷ xs) = ap suc (length_map f xs)
@@ -52,6 +57,10 @@ every_all P (x ∷ xs) h = All-cons P x xs h.0 (every_all P xs h.1)
 pub every_append : {A : Type 0} (P : A → Type 0) (xs ys : List A) → Every P xs → Every P ys → Every P (xs ++ ys)
 every_append P [] ys h k = k
 every_append P (x ∷ xs) ys h k = (h.0, every_append P xs ys h.1 k)
+
+pub every_split : {A : Type 0} (P : A → Type 0) (xs ys : List A) → Every P (xs ++ ys) → Every P xs × Every P ys
+every_split P [] ys h = (tt, h)
+every_split P (x ∷ xs) ys h = let b = every_split P xs ys h.1 in ((h.0, b.0), b.1)
 
 pub optional_is : {A B : Type 0} (P : A → Type 0) (Q : B → Type 0) (f : A → Outcome B) (x : Option A) → IfThere P x → ((a : A) → P a → IfGood (f a) Q)
     → IfGood (optional f x) (IfThere Q)

@@ -1,6 +1,6 @@
 -- Statements with statements in them, and what has a number by its place.
-use Rattle.std.proofs.Common.{◌≡◌, ℕ, suc, ◌+◌, ◌≤◌, true, false, List, [], ◌∷◌, length, Option, Some, None, refl, sym, ap, ◌∙◌, subst}
-use Rattle.std.specs.Prelude.{Contains, nat_le, ⊤}
+use Rattle.std.proofs.Common.{◌≡◌, ℕ, ◌+◌, true, false, List, [], ◌∷◌, length, Option, Some, None, refl}
+use Rattle.std.specs.Prelude.{nat_le, ⊤}
 use Rattle.al_base.specs.declared.arith.Kind.{Kind}
 use Rattle.al_base.specs.declared.place.Place.{Place}
 use Rattle.al_rules.specs.Outcome.{Outcome, Good, Bad, and_then, ask, pair}
@@ -16,7 +16,6 @@ use Rattle.al_typed.proofs.StatementRules as rules
 use Rattle.al_convert.specs.Kinds.{kind_of}
 use Rattle.al_environment.specs.declared.environment.Environment.{Environment}
 use Rattle.al_environment.specs.declared.environment.Here.{Here}
-use Rattle.al_environment.specs.Firsts.{number_at}
 use Rattle.al_type_expr.specs.Nodes.{dropped_value, value_of}
 use Rattle.al_statements.specs.Parts.{switched}
 use Rattle.al_statements.specs.Cases.{no_cases}
@@ -24,13 +23,13 @@ use Rattle.al_type_stmt.specs.declared.within.Within.{Within}
 use Rattle.al_type_stmt.specs.declared.within.Choice.{Choice}
 use Rattle.al_type_stmt.specs.declared.within.Choice.TheVariants as choice
 use Rattle.al_type_stmt.specs.Numbers.{number_of}
-use Rattle.al_type_stmt.specs.Statements.{Part, alt_at, alt_of, block_at, branch_at, branch_number, break_at, condition_of, continue_at, do_at, for_at, for_head, for_rest, goto_at, if_made, in_choice, inner, label_at, label_faults, labelled, of_each, optional, par_at, places, raise_at, rescue_at, switch_at, switch_in, switch_of, switch_on, target, way_step, while_at}
+use Rattle.al_type_stmt.specs.Statements.{Part, alt_at, alt_of, block_at, branch_at, break_at, condition_of, continue_at, do_at, for_at, for_head, for_rest, goto_at, if_made, in_choice, inner, label_at, label_faults, labelled, of_each, optional, par_at, places, raise_at, rescue_at, switch_at, switch_in, switch_of, switch_on, target, way_step, while_at}
 use Rattle.al_sound_operators.specs.Typed.{IfGood, IsOperand, IsTyped}
 use Rattle.al_sound_nodes.specs.Nodes.{Tells}
 use Rattle.al_sound_expressions.specs.Expressions.{Every}
 use Rattle.al_sound_statements.specs.Statements.{EachInside, IfThere, IsFitAt, IsFitExpr, IsPart, nest_of}
 use Rattle.al_sound_operators.proofs.Outcomes.{after, paired, where_good}
-use Rattle.al_sound_statements.proofs.StatementLists.{AreMany, anything, every_all, if_either, judged_any, of_each_is, optional_is}
+use Rattle.al_sound_statements.proofs.StatementLists.{AreMany, anything, if_either, judged_any, of_each_is, optional_is}
 use Rattle.al_sound_statements.proofs.Known.{Laws}
 use Rattle.al_sound_statements.proofs.SimpleStatements.{alloc_is, become_is, check_is, condition_is, declared_is, dropped_is, proc_is, return_is, task_is, unalloc_is, value_is}
 use Rattle.al_sound_statements.proofs.CasesAre.{IsSwitched, alt_of_is, case_is, default_is, switched_is, switched_kind}

@@ -1,8 +1,14 @@
 // Laws on the typing rules.
 
+ghost use Rattle.al_sound_statements.specs.Bodies.{BodiesAreSound};
 ghost use Rattle.al_sound_statements.specs.Statements.{StatementsAreSound};
 
 /// What each tree of a statement gives is well typed, in the body of a switch, of an alt, and elsewhere.
 pub fn statements_are_sound()
     ensures { StatementsAreSound }
+{}
+
+/// What the tree of a body gives is well typed among any names of sound types.
+pub fn bodies_are_sound()
+    ensures { BodiesAreSound }
 {}

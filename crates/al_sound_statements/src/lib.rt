@@ -1,6 +1,6 @@
-//! What trees of statements give is well typed. The function here does nothing, and its contract is a law.
+//! What trees of statements give is well typed. The functions here do nothing, and their contracts are laws.
 #![tactic(auto)]
 
 mod laws;
 
-pub use laws::statements_are_sound;
+pub use laws::{bodies_are_sound, statements_are_sound};
