@@ -166,7 +166,7 @@ module _ (s : Scope) (env : Environment) (here : Here) where
     node_fit (Expr-F.Name at name) h = there.reached at
     node_fit (Expr-F.Tuple at parts) h = tt
     node_fit (Expr-F.Unary at op a) h = unary_fit at op a
-    node_fit (Expr-F.Cast at to a) h = (every_split Sound (expr_types a) (to ∷ []) h).1.0
+    node_fit (Expr-F.Cast at to a) h = h.0
     node_fit (Expr-F.SizeofType at of) h = h.0
     node_fit (Expr-F.SizeofValue at a) h = tt
     node_fit (Expr-F.Index at a b) h = tt
@@ -204,7 +204,7 @@ module _ (s : Scope) (env : Environment) (here : Here) where
     each_fit (Expr-F.Name at name) h = tt
     each_fit (Expr-F.Tuple at parts) h = every_fit parts h
     each_fit (Expr-F.Unary at op a) h = a.1 h
-    each_fit (Expr-F.Cast at to a) h = a.1 (every_split Sound (expr_types a.0) (to ∷ []) h).0
+    each_fit (Expr-F.Cast at to a) h = a.1 h.1
     each_fit (Expr-F.SizeofType at of) h = tt
     each_fit (Expr-F.SizeofValue at a) h = a.1 h
     each_fit (Expr-F.Index at a b) h = both_parts a b h

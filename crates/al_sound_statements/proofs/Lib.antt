@@ -9,4 +9,5 @@ pub mod StatementTrees
 pub mod WrittenTypes
 pub mod FitExpressions
 pub mod FitStatements
+pub mod TypesGathered
 pub mod StatementsAre

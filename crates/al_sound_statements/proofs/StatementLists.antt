@@ -1,7 +1,7 @@
 -- Lists and parts of statements.
 use Rattle.std.proofs.Common.{◌≡◌, ℕ, Bool, true, false, List, [], ◌∷◌, ◌++◌, map, length, Option, Some, None, refl, ap, ◌∙◌, suc}
-use Rattle.std.specs.Prelude.{All, if◌then◌else◌, ⊤}
-use Rattle.std.proofs.lemmas.List.Elements.{All-cons, All-nil}
+use Rattle.std.specs.Prelude.{All, Contains, if◌then◌else◌, ⊤}
+use Rattle.std.proofs.lemmas.List.Elements.{All-cons, All-contains, All-nil}
 use Rattle.al_base.specs.declared.place.Place.{Place}
 use Rattle.al_rules.specs.Outcome.{Outcome, Good, Bad, ask, judge, both}
 use Rattle.al_rules.specs.declared.fault.TypeFault.{TypeFault}
@@ -57,6 +57,9 @@ every_all P (x ∷ xs) h = All-cons P x xs h.0 (every_all P xs h.1)
 pub every_append : {A : Type 0} (P : A → Type 0) (xs ys : List A) → Every P xs → Every P ys → Every P (xs ++ ys)
 every_append P [] ys h k = k
 every_append P (x ∷ xs) ys h k = (h.0, every_append P xs ys h.1 k)
+
+pub every_at : {A : Type 0} (P : A → Type 0) (xs : List A) (x : A) → Every P xs → Contains xs x → P x
+every_at P xs x h c = All-contains P xs x (every_all P xs h) c
 
 pub every_split : {A : Type 0} (P : A → Type 0) (xs ys : List A) → Every P (xs ++ ys) → Every P xs × Every P ys
 every_split P [] ys h = (tt, h)

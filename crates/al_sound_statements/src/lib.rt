@@ -3,4 +3,4 @@
 
 mod laws;
 
-pub use laws::{bodies_are_sound, statements_are_sound};
+pub use laws::{bodies_are_sound, statements_are_sound, types_are_gathered};
