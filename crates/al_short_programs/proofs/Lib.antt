@@ -1,0 +1,10 @@
+pub mod Outcomes
+pub mod Lists
+pub mod TokensAre
+pub mod PartsAre
+pub mod InitialsAre
+pub mod GlobalsAre
+pub mod FunctionsAre
+pub mod GatheredAre
+pub mod DefinedAre
+pub mod ProgramsAre
