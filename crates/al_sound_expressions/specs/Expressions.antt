@@ -1,29 +1,25 @@
--- What a tree of an expression gives is well typed, where its numbers have room, the types that are written in it are sound, its
--- tuples are no larger than types may be, and the locals are shared whose addresses it takes, or that it names of functions
--- round a branch of a par.
-use Rattle.std.specs.Prelude.{◌≡◌, ℕ, ◌<◌, ◌^◌, Bool, true, false, ◌&&◌, Contains, List, [], ◌∷◌, map, length, Some, ⊤}
+-- What a tree of an expression gives is well typed, where the types that are written in it are sound, its strings and iterators
+-- are there, and the locals are shared whose addresses it takes, or that it names of functions round a branch of a par.
+use Rattle.std.specs.Prelude.{◌≡◌, ℕ, ◌<◌, Bool, true, false, Contains, List, [], ◌∷◌, Some, ⊤}
 use Rattle.al_base.specs.declared.place.Place.{Place}
 use Rattle.al_scope.specs.Firsts.{declaration_at}
 use Rattle.al_tree.specs.declared.expression.UnaryOp.TheVariants as prefix
-use Rattle.al_tree.specs.declared.expression.AssignOp.TheVariants as assign
 use Rattle.al_tree.specs.declared.expression.Expr.{Expr, out-Expr, map-Expr}
 use Rattle.al_tree.specs.declared.expression.Expr.TheOpen.{Expr-F}
 use Rattle.al_tree.specs.declared.type_tree.TypeTree.{TypeTree}
-use Rattle.al_typed.specs.declared.program.Aggregate.{Aggregate as AggregateRow}
 use Rattle.al_typed.specs.declared.ty.Ty.{Ty}
 use Rattle.al_typed.specs.declared.ty.Ty.TheVariants as ty
 use Rattle.al_typed.specs.declared.expression.TExpr.{Row_of-TTarget, end_of-TTarget, more_of-TTarget}
 use Rattle.al_typed.specs.declared.expression.TTarget.{TTarget, Dropped, Parts'}
 use Rattle.al_typed.specs.ExpressionForms as form
 use Rattle.al_typed.specs.Types.{is_array, is_whole}
-use Rattle.al_typed.specs.Typed.{place_type, target_types, type_of}
-use Rattle.al_typed.specs.WellTyped.{Scope, is_small, is_sound, is_stored, rows}
+use Rattle.al_typed.specs.Typed.{place_type, target_types}
+use Rattle.al_typed.specs.WellTyped.{Scope, is_small, is_sound, is_stored, rows, strings_of}
 use Rattle.al_environment.specs.declared.environment.Environment.{Environment}
 use Rattle.al_environment.specs.declared.environment.Here.{Here}
 use Rattle.al_environment.specs.Firsts.{number_at}
 use Rattle.al_environment.specs.Written.{written}
-use Rattle.al_type_expr.specs.Lists.{columns}
-use Rattle.al_type_expr.specs.Nodes.{Node, dropped_value, node, operand_of, value_of}
+use Rattle.al_type_expr.specs.Nodes.{Node, dropped_value, node, value_of}
 use Rattle.al_sound_operators.specs.Typed.{IfGood, IsOperand, IsSoundPlace, IsTyped}
 use Rattle.al_sound_nodes.specs.Nodes.{IsFound, IsReached, IsShared, Tells}
 use Rattle.al_sound_nodes.specs.Callees.{IsCallee}
@@ -35,22 +31,11 @@ abbrev mutual
   pub IsAimed : Scope → TTarget → Type 0
   IsAimed s (form.into place) = IsSoundPlace s place × (is_array (place_type place) ≡ false)
   IsAimed s (Dropped t) = (is_stored (rows s) t ≡ true) × (is_array t ≡ false)
-  IsAimed s (Parts' t _ parts) = (t ≡ ty.Tuple (target_types parts)) × AreAimed s parts
+  IsAimed s (Parts' t _ parts) = (t ≡ ty.Tuple (target_types parts)) × ((is_small (rows s) t ≡ true) × AreAimed s parts)
 
   pub AreAimed : Scope → {m : _} → Row_of-TTarget m → Type 0
   AreAimed s end_of-TTarget = ⊤
   AreAimed s (more_of-TTarget target rest) = IsAimed s target × AreAimed s rest
-
--- its tuples are no larger than types may be
-abbrev mutual
-  pub is_small_target : List AggregateRow → TTarget → Bool
-  is_small_target rows (form.into place) = true
-  is_small_target rows (Dropped t) = true
-  is_small_target rows (Parts' t _ parts) = is_small rows t && are_small_targets rows parts
-
-  pub are_small_targets : List AggregateRow → {m : _} → Row_of-TTarget m → Bool
-  are_small_targets rows end_of-TTarget = true
-  are_small_targets rows (more_of-TTarget target rest) = is_small_target rows target && are_small_targets rows rest
 
 -- ---- nodes
 
@@ -91,17 +76,12 @@ IsSoundWritten s env here t = (u : Ty) → written env here t ≡ Some u → is_
 
 -- what the rules of types do not ask of a node
 abbrev pub IsFit : Scope → Environment → Here → Expr-F Node → Type 0
-IsFit s env here (Expr-F.Number at value) = value < 2 ^ 64
-IsFit s env here (Expr-F.Char at value) = value < 2 ^ 8
-IsFit s env here (Expr-F.Text at bytes) = (n : ℕ) → number_at here.texts at ≡ Some n → n < length s.program.strings
+IsFit s env here (Expr-F.Text at bytes) = (n : ℕ) → number_at here.texts at ≡ Some n → n < strings_of s.names
 IsFit s env here (Expr-F.Name at name) = IsReached s here (declaration_at env.scopes.names at)
-IsFit s env here (Expr-F.Tuple at parts) = IfGood (columns (map (operand_of env) parts)) (λ c. is_small (rows s) (ty.Tuple c.types) ≡ true)
 IsFit s env here (Expr-F.Unary at prefix.Address a) = IfGood a.found (IsShared s)
 IsFit s env here (Expr-F.Cast at to a) = IsSoundWritten s env here to
 IsFit s env here (Expr-F.SizeofType at of) = IsSoundWritten s env here of
 IsFit s env here (Expr-F.Iterator at a b) = (n : ℕ) → number_at here.iterators at ≡ Some n → n < s.iterators
-IsFit s env here (Expr-F.Assign at assign.Assign a b) =
-    IfGood (operand_of env b) (λ x. IfGood (a.target false at (type_of x.value)) (λ t. is_small_target (rows s) t ≡ true))
 IsFit s env here _ = ⊤
 
 -- Trees that have, with each, its parts, and whose nodes are fit.
@@ -109,7 +89,7 @@ pub record AreFit (s : Scope) (env : Environment) (here : Here) (trees : List Ex
   pub parts : (e : Expr) → Contains trees e → EachPart (Contains trees) (out-Expr e)
   pub fit : (e : Expr) → Contains trees e → IsFit s env here (map-Expr Expr Node (node env here) (out-Expr e))
 
--- of each tree among those that are fit, where names stand for what the program has
+-- of each tree among those that are fit, where names stand for what is among the names
 abbrev pub OfTrees : (Scope → Environment → Here → Expr → Type 0) → Type 0
 OfTrees Holds = (s : Scope) (env : Environment) (here : Here) → Tells s env here → (trees : List Expr) → AreFit s env here trees → (e : Expr) → Contains trees e → Holds s env here e
 

@@ -1,15 +1,14 @@
--- What is called is well typed, where the environment tells of the program.
+-- What is called is well typed, where the environment tells of the names.
 use Rattle.std.specs.Prelude.{◌≡◌, ℕ, ◌++◌, true, ◌||◌, All, List, Option, Some, None, ⊤, []}
 use Rattle.al_base.specs.declared.place.Place.{Place}
 use Rattle.al_scope.specs.declared.declaration.Declaration.{Declaration}
 use Rattle.al_typed.specs.declared.ty.Ty.{Ty}
 use Rattle.al_typed.specs.declared.ty.Ty.TheVariants as ty
-use Rattle.al_typed.specs.declared.program.Function.{Function as FunctionRow}
 use Rattle.al_typed.specs.declared.expression.TExpr.{TExpr}
 use Rattle.al_typed.specs.declared.expression.TReceiver.{TReceiver}
 use Rattle.al_typed.specs.Types.{is_void, is_whole}
-use Rattle.al_typed.specs.Typed.{parameter_types, type_of}
-use Rattle.al_typed.specs.WellTyped.{Gives, IsCallable, Scope, is_sound, rows}
+use Rattle.al_typed.specs.Typed.{type_of}
+use Rattle.al_typed.specs.WellTyped.{Gives, Scope, Takes, is_sound, rows}
 use Rattle.al_environment.specs.declared.environment.Environment.{Environment}
 use Rattle.al_environment.specs.declared.environment.Here.{Here}
 use Rattle.al_operands.specs.declared.operand.Operand.{Operand}
@@ -34,12 +33,9 @@ pub record HasTypes (s : Scope) (returns : Ty) (parameters : List Ty) : Type 0 w
 -- a function that is called by its name, with the object before it
 pub record IsNamedCallee (s : Scope) (returns : Ty) (number : ℕ) (receiver : Option TReceiver) (parameters : List Ty) : Type 0 where
   pub types : HasTypes s returns parameters
-  pub function : FunctionRow
-  pub is : IsCallable s.program number function
-  pub returned : returns ≡ function.returns
   pub given : List Ty
   pub is_given : IsGivenBy s receiver given
-  pub taken : parameter_types function ≡ given ++ parameters
+  pub takes : Takes s.names number (given ++ parameters) returns
 
 -- a pointer to a function
 pub record IsPointerCallee (s : Scope) (returns : Ty) (pointer : TExpr) (parameters : List Ty) : Type 0 where

@@ -1,4 +1,4 @@
--- What names, members and their uses give is well typed, where the environment tells of the program.
+-- What names, members and their uses give is well typed, where the environment tells of the names.
 use Rattle.std.specs.Prelude.{◌≡◌, ℕ, ◌<◌, ◌^◌, ◌++◌, Bool, true, false, ◌&&◌, ◌||◌, ◌⊎◌, All, List, [], Option, Some, slice_get, ⊤}
 use Rattle.al_base.specs.Arith.{width_of}
 use Rattle.al_base.specs.declared.place.Place.{Place}
@@ -9,12 +9,10 @@ use Rattle.al_scope.specs.declared.declaration.Declaration.TheVariants as declar
 use Rattle.al_typed.specs.declared.ty.Ty.{Ty}
 use Rattle.al_typed.specs.declared.ty.Ty.TheVariants as ty
 use Rattle.al_typed.specs.declared.program.Aggregate.{Aggregate as AggregateRow}
-use Rattle.al_typed.specs.declared.program.Function.{Function as FunctionRow}
 use Rattle.al_typed.specs.declared.expression.TPlace.{TPlace}
 use Rattle.al_typed.specs.declared.expression.TPlace.TheVariants as place
 use Rattle.al_typed.specs.Types.{is_void, is_whole}
-use Rattle.al_typed.specs.Typed.{parameter_types}
-use Rattle.al_typed.specs.WellTyped.{HasAddress, IsCallable, LeadsTo, Scope, is_sound, is_stored, passes, rows}
+use Rattle.al_typed.specs.WellTyped.{HasAddress, IsFunctionOfType, LeadsTo, Scope, Takes, is_sound, is_stored, passes, rows}
 use Rattle.al_environment.specs.declared.environment.Environment.{Environment}
 use Rattle.al_environment.specs.declared.environment.Here.{Here}
 use Rattle.al_environment.specs.declared.environment.NamedFunction.{NamedFunction}
@@ -39,15 +37,17 @@ is_passed rows t = is_sound rows t && is_whole rows t
 
 -- The function of that number is called by a signature, and gets these of its object.
 pub record Calls (s : Scope) (f : Signature) (number : ℕ) (given : List Ty) : Type 0 where
-  pub function : FunctionRow
-  pub is : IsCallable s.program number function
-  pub returns : f.returns ≡ function.returns
-  pub parameters : parameter_types function ≡ given ++ f.parameters
+  pub takes : Takes s.names number (given ++ f.parameters) f.returns
   pub sound : is_sound (rows s) f.returns ≡ true
   pub whole : (is_void f.returns || is_whole (rows s) f.returns) ≡ true
   pub passed : All (λ t. is_passed (rows s) t ≡ true) f.parameters
 
--- A global of the program. One that is not private has an address.
+-- A function that is named: its name is called, and is a value.
+pub record IsFunctionOf (s : Scope) (f : Signature) (number : ℕ) : Type 0 where
+  pub calls : Calls s f number []
+  pub value : IsFunctionOfType s.names number (ty.Pointer (ty.Function f.returns f.parameters))
+
+-- A global. One that is not private has an address.
 pub record IsGlobalOf (s : Scope) (v : Variable) : Type 0 where
   pub sound : IsSoundPlace s (place.Global v.ty v.number)
   pub open_to : v.is_private ≡ false → HasAddress s (place.Global v.ty v.number)
@@ -63,13 +63,13 @@ pub record IsMethodOf (s : Scope) (aggregate : ℕ) (f : NamedFunction) (number 
   pub leads : LeadsTo (rows s) f.path (ty.Aggregate aggregate) object
   pub calls : Calls s f.signature number (passes f.passed object)
 
--- Names stand for what the program has, where an expression stands.
+-- Names stand for what is among the names, where an expression stands.
 pub record Tells (s : Scope) (env : Environment) (here : Here) : Type 0 where
   pub aggregates : env.aggregates ≡ rows s
   pub globals : (n : ℕ) (v : Variable) → global env n ≡ Some v → IsGlobalOf s v
   pub locals : (n : ℕ) (v : Variable) → local here n ≡ Some v → IsSoundPlace s (place.Local v.ty v.number)
   pub constants : (n : ℕ) (c : EnumConstant) (i : Integer) → slice_get env.scopes.constants.list n ≡ Some c → c.value ≡ Some i → i.bits < 2 ^ width_of i.kind
-  pub functions : (n number : ℕ) (f : Signature) → function env n ≡ Some f → f.number ≡ Some number → Calls s f number []
+  pub functions : (n number : ℕ) (f : Signature) → function env n ≡ Some f → f.number ≡ Some number → IsFunctionOf s f number
   pub members : (aggregate name : ℕ) (m : NamedMember) → member_named env aggregate name ≡ Some m → IsMemberOf s aggregate m
   pub methods : (aggregate name number : ℕ) (f : NamedFunction) → function_named env aggregate name ≡ Some f → f.signature.number ≡ Some number
       → IsMethodOf s aggregate f number

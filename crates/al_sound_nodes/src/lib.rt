@@ -1,4 +1,4 @@
-//! What names, members and callees give is well typed, where the environment tells of the program. The functions here do
+//! What names, members and callees give is well typed, where the environment tells of the names. The functions here do
 //! nothing, and their contracts are laws.
 #![tactic(auto)]
 

@@ -1,0 +1,12 @@
+pub mod Lists
+pub mod ConstantsAre
+pub mod MembersAre
+pub mod RowsAre
+pub mod OrdersAre
+pub mod FormsAre
+pub mod UnionsAre
+pub mod OwnAre
+pub mod NumbersAre
+pub mod WholeIs
+pub mod Forms
+pub mod TellsAre

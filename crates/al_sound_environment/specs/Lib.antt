@@ -1,0 +1,5 @@
+pub mod Unnamed
+pub mod Constants
+pub mod Members
+pub mod Whole
+pub mod Tells

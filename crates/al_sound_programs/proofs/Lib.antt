@@ -1,0 +1,15 @@
+pub mod PartsStand
+pub mod StartsAre
+pub mod InitializersAre
+pub mod SmallTypes
+pub mod GlobalsAre
+pub mod Frames
+pub mod BodiesAre
+pub mod BranchesAre
+pub mod FunctionsAre
+pub mod GathersAre
+pub mod WrittenValues
+pub mod TextsAre
+pub mod ProgramsAre
+pub mod ValuesAre
+pub mod SoundPrograms

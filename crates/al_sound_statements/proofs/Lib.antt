@@ -1,0 +1,13 @@
+pub mod StatementLists
+pub mod Known
+pub mod SimpleStatements
+pub mod CasesAre
+pub mod IteratorNumbers
+pub mod IteratorsIn
+pub mod StatementParts
+pub mod StatementTrees
+pub mod WrittenTypes
+pub mod FitExpressions
+pub mod FitStatements
+pub mod TypesGathered
+pub mod StatementsAre
