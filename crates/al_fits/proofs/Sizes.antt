@@ -67,7 +67,7 @@ sound_sent rows t capacity h = (and_parts _ _ (and_parts _ _ h).0).0
 -- ---- words
 
 -- a small type has few units, and words
-pub at_most_words : (p : Program) (t : Ty) → IsSmall p t → words_in p t ≤ 2 ^ 28
+at_most_words : (p : Program) (t : Ty) → IsSmall p t → words_in p t ≤ 2 ^ 28
 unfolding words_of
 at_most_words p t small = on (is_array t)
   where

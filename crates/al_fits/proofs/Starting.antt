@@ -1,6 +1,6 @@
 -- The first world of a program of sound types, within the measures and short, has numbers that fit.
-use Rattle.std.proofs.Common.{◌≡◌, ℕ, suc, ◌+◌, ◌*◌, ◌<◌, ◌≤◌, Bool, true, false, if◌then◌else◌, List, [], ◌∷◌, length, refl, sym, ◌∙◌, subst, arith, inl, inr, take, map, zero}
-use Rattle.std.specs.Prelude.{◌^◌, ◌⊎◌, filter, fold, Option, Some, None}
+use Rattle.std.proofs.Common.{◌≡◌, ℕ, suc, ◌+◌, ◌*◌, ◌<◌, ◌≤◌, Bool, true, false, if◌then◌else◌, List, [], ◌∷◌, length, refl, arith, inl, inr, take, map, zero}
+use Rattle.std.specs.Prelude.{◌^◌, filter, fold, Option, Some, None}
 use Rattle.std.specs.List.{AllByRecursion}
 use Rattle.std.proofs.lemmas.Bool.{and_parts}
 use Rattle.std.proofs.lemmas.List.Elements.{All-contains, All-filter, All-from_recursion, All-weaker, recursion_from_All}

@@ -165,8 +165,7 @@ module _ (p : Program) where
         omega (arith, lt, bounds_weigh iterators, left n (flat_map bounds_pieces iterators) (pieces false value) (behind n _ _ le))
     statement_has_few n (part.label _ _ body) lt le = statement_has_few n body lt (behind n _ _ le)
     statement_has_few n (If' _ condition _ (more_of-TStmt body end_of-TStmt) other) lt le =
-        let rest = behind n _ _ le in
-        (
+        let rest = behind n _ _ le in (
           statement_has_few n body lt (right n (pieces false condition) (statement_pieces body) (left n _ (other_pieces other) rest)),
           other_has_few n other lt (right n _ (other_pieces other) rest),
         )
