@@ -1,4 +1,4 @@
--- A value of a complete type has a byte at least, where each union has a member.
+-- A value of a complete type that is sound has a byte at least.
 use Rattle.std.proofs.Common.{◌≡◌, ℕ, zero, suc, ◌*◌, ◌<◌, ◌≤◌, Bool, true, false, List, [], ◌∷◌, map, length, take, Option, Some, None, refl, ap, ◌∙◌, subst, arith, inl, inr}
 use Rattle.std.specs.Prelude.{All, slice_get, unwrap_or, filter, fold, is_some}
 use Rattle.std.specs.List.{AllByRecursion, list_all}
@@ -17,12 +17,12 @@ use Rattle.al_typed.specs.declared.ty.Ty.TheVariants as ty
 use Rattle.al_typed.specs.TyFold.{fold_types}
 use Rattle.al_typed.specs.Types.{bytes_of, has_body, is_complete, is_complete_step}
 use Rattle.al_typed.specs.Layout.{Layout, Run, layout, layout_of, layout_step, layouts_after, members_layout, of_bytes, repeated, in_order, followed, begun, size_of}
-use Rattle.al_typed.specs.WellTyped.{IsWellTyped, IsLocalOf, is_sound, are_sound, is_stored, shared_types}
+use Rattle.al_typed.specs.Sound.{HasSoundTypes}
+use Rattle.al_typed.specs.WellTyped.{is_sound, are_sound, is_stored, shared_types}
 use Rattle.al_typed.proofs.Placing.{in_order-end}
 use Rattle.al_typed.proofs.CappedLemmas.{rounded_above}
 use Rattle.al_meaning.specs.Places.{block_size, function_at, locals_of}
-use Rattle.al_fits.specs.Controls.{UnionsHaveMembers}
-use Rattle.al_fits.proofs.Members.{aggregate_size, all_at, union_covers}
+use Rattle.al_fits.proofs.Members.{aggregate_size, all_at, function_is, union_covers}
 use Rattle.al_fits.proofs.Units.{IsSplit, fold_all_split, known_after_split, layouts_split}
 
 some_width : (n : ℕ) → IsWidth n → 1 ≤ n
@@ -71,7 +71,7 @@ taken (suc n) k [] x e = absurd (cc)
 taken (suc n) zero (y ∷ xs) x e = (omega arith, e)
 taken (suc n) (suc k) (y ∷ xs) x e = let rest = taken n k xs x e in (omega (arith, rest.0), rest.1)
 
-module _ (p : Program) (W : IsWellTyped p) (U : UnionsHaveMembers p) where
+module _ (p : Program) (W : HasSoundTypes p) where
   abbrev Some_of : ℕ → Type 0
   Some_of k = (t : Ty) → is_sound p.aggregates t ≡ true → is_complete (take k p.aggregates) t ≡ true → 1 ≤ size_of p.aggregates t
 
@@ -98,7 +98,7 @@ module _ (p : Program) (W : IsWellTyped p) (U : UnionsHaveMembers p) where
           subst (λ (o : Option (List Ty)). All (λ t. is_complete (take number p.aggregates) t ≡ true) (unwrap_or o [])) m (W.laid_out.ordered number a e) in
           let stored : All (λ t. is_stored p.aggregates t ≡ true) ms =
           subst (λ (o : Option (List Ty)). All (λ t. is_stored p.aggregates t ≡ true) (unwrap_or o [])) m (W.members number a e) in
-          let some = members_some a.is_union ms (λ u n. U number a e u (m ∙ ap Some n))
+          let some = members_some a.is_union ms (λ u n. W.unions number a e u (m ∙ ap Some n))
           (λ t rest is. more number lt t
           (and_parts _ _ (all_at (λ t. is_stored p.aggregates t ≡ true) ms 0 t stored (ap (λ l. slice_get l 0) is))).0
           (all_at (λ t. is_complete (take number p.aggregates) t ≡ true) ms 0 t ordered (ap (λ l. slice_get l 0) is))) in
@@ -142,10 +142,11 @@ module _ (p : Program) (W : IsWellTyped p) (U : UnionsHaveMembers p) where
 
   -- ---- blocks of functions
 
-  shared_some : (ls : List LocalRow) → All (IsLocalOf p) ls → AllByRecursion (λ t. 1 ≤ size_of p.aggregates t) (shared_types ls)
+  shared_some : (ls : List LocalRow) → All (λ (l : LocalRow). is_stored p.aggregates l.ty ≡ true) ls → AllByRecursion (λ t. 1 ≤ size_of p.aggregates t) (shared_types ls)
   shared_some ls h =
       let each : All (λ (l : LocalRow). 1 ≤ size_of p.aggregates l.ty) ls =
-      All-weaker (IsLocalOf p) (λ (l : LocalRow). 1 ≤ size_of p.aggregates l.ty) (λ l s. let b = and_parts _ _ s.0 in some_bytes l.ty b.0 b.1) ls h in
+      All-weaker (λ (l : LocalRow). is_stored p.aggregates l.ty ≡ true) (λ (l : LocalRow). 1 ≤ size_of p.aggregates l.ty)
+      (λ l s. let b = and_parts _ _ s in some_bytes l.ty b.0 b.1) ls h in
       let kept : List LocalRow = filter (λ (l : LocalRow). l.is_shared) ls in
       recursion_from_All (λ t. 1 ≤ size_of p.aggregates t) (shared_types ls)
       (All-map (λ t. 1 ≤ size_of p.aggregates t) (λ (l : LocalRow). l.ty) kept
@@ -160,4 +161,4 @@ module _ (p : Program) (W : IsWellTyped p) (U : UnionsHaveMembers p) where
     where
       on : (o : Option FunctionRow) → function_at p n ≡ o → 1 ≤ block_size p (locals_of o)
       on None e = none_fits
-      on (Some f) e = in_order_some (shared_types f.locals) (shared_some f.locals (W.functions n f e).locals)
+      on (Some f) e = in_order_some (shared_types f.locals) (shared_some f.locals (function_is p W n f e).locals)

@@ -20,7 +20,8 @@ use Rattle.al_typed.specs.declared.statement.TInitializer.{TInitializer}
 use Rattle.al_typed.specs.declared.statement.TStmt.{TStmt, Empty, Block', Declare, Value, If', Switch', Case, Default, Alt', AltCase, Par, Raise, Goto, Return, Become, Break, Continue, Alloc, Unalloc, Check, Proc, Task, end_of-TStmt, more_of-TStmt}
 use Rattle.al_typed.specs.StatementForms as part
 use Rattle.al_typed.specs.Typed.{type_of, place_type}
-use Rattle.al_typed.specs.WellTyped.{IsWellTyped, IsValue, IsPlace, IsStatement, IsInitializer, AreBounds, IsOptionalValue, IsCall, Allocates, GivesBack, inside, in_loop, is_sound, IsChannel}
+use Rattle.al_typed.specs.Sound.{HasSoundTypes}
+use Rattle.al_typed.specs.WellTyped.{IsValue, IsPlace, IsStatement, IsInitializer, AreBounds, IsOptionalValue, IsCall, Allocates, GivesBack, inside, in_loop, is_sound, IsChannel}
 use Rattle.al_meaning.specs.Items.{Work, Eval, Answered, InvokeInstead, Returns, StartProc, StartTask, Choose, Test, WhileTest, DoCondition, ForCondition, Bound, Select, AltTalk}
 use Rattle.al_meaning.specs.Parts.{other_of, item, to_do, statements, behind_bodies, next_of_loop, branchings}
 use Rattle.al_meaning.specs.Here.{Here, function_here}
@@ -35,23 +36,23 @@ use Rattle.al_fits.proofs.Bytes.{some_bytes}
 use Rattle.al_fits.proofs.Terms.{call_works, dropped_works, narrow, small_value, sound_place}
 use Rattle.al_fits.proofs.Statements.{body_items, other_stands, found_items, from_body, behind_is, next_is, alt_works, alt_branches_are}
 
-initializer_works : (p : Program) → IsWellTyped p → (n : ℕ) (is : List TInitializer) → In p n (λ s. AllByRecursion (IsInitializer s) is) → WorksAre p n (flat_map initializer_work is)
+initializer_works : (p : Program) → HasSoundTypes p → (is : List TInitializer) → In p (λ s. AllByRecursion (IsInitializer s) is) → WorksAre p (flat_map initializer_work is)
 unfolding IsPlace
-initializer_works p W n [] x = tt
-initializer_works p W n (i ∷ is) x =
-    let value : In p n (λ s. IsValue s i.value) = narrow x (λ s v. v.0.0) in
-    let place : In p n (λ s. IsPlace s (place.Local (type_of i.value) i.local)) = narrow x (λ s v. (v.0.1.0, (v.0.1.1.0, v.0.1.1.1.0))) in
-    each_append (WorkIs p n) (initializer_work i) (flat_map initializer_work is)
-    (place, (value, (small_value p W n i.value value, tt)))
-    (initializer_works p W n is (narrow x (λ s v. v.1)))
+initializer_works p W [] x = tt
+initializer_works p W (i ∷ is) x =
+    let value : In p (λ s. IsValue s i.value) = narrow x (λ s v. v.0.0) in
+    let place : In p (λ s. IsPlace s (place.Local (type_of i.value) i.local)) = narrow x (λ s v. v.0.1.0) in
+    each_append (WorkIs p) (initializer_work i) (flat_map initializer_work is)
+    (place, (value, (small_value p W i.value value, tt)))
+    (initializer_works p W is (narrow x (λ s v. v.1)))
 
-bounds_works : (p : Program) (n : ℕ) (bs : List TBounds) → In p n (λ s. AllByRecursion (AreBounds s) bs) → WorksAre p n (evaluated (bounds_exprs bs))
-bounds_works p n [] x = tt
-bounds_works p n (b ∷ bs) x = (narrow x (λ s v. v.0.0), (narrow x (λ s v. v.0.1.1.0), bounds_works p n bs (narrow x (λ s v. v.1))))
+bounds_works : (p : Program) (bs : List TBounds) → In p (λ s. AllByRecursion (AreBounds s) bs) → WorksAre p (evaluated (bounds_exprs bs))
+bounds_works p [] x = tt
+bounds_works p (b ∷ bs) x = (narrow x (λ s v. v.0.0), (narrow x (λ s v. v.0.1.1.0), bounds_works p bs (narrow x (λ s v. v.1))))
 
-pub optional_works : (p : Program) (n : ℕ) (o : Option TExpr) → In p n (λ s. IsOptionalValue s o) → WorksAre p n (optionally o)
-optional_works p n None x = tt
-optional_works p n (Some e) x = dropped_works p n e (narrow x (λ s v. v))
+pub optional_works : (p : Program) (o : Option TExpr) → In p (λ s. IsOptionalValue s o) → WorksAre p (optionally o)
+optional_works p None x = tt
+optional_works p (Some e) x = dropped_works p e (narrow x (λ s v. v))
 
 -- what a pointer leads to, or what goes through a channel, is small
 allocation_fits : (p : Program) (t : Ty) → is_sound p.aggregates t ≡ true → AllocationFits p (out-Ty t)
@@ -65,70 +66,70 @@ allocation_fits p t h = on (out-Ty t) (sym (roll-out-Ty t))
     on _ e = tt
 
 -- what a pointer leads to that is allocated has a byte
-allocates_some : (p : Program) → IsWellTyped p → HasRoom p → (t : Ty) → is_sound p.aggregates t ≡ true → (points_to_complete p.aggregates t ≡ true) ⊎ IsChannel t → AllocatesSome p (out-Ty t)
+allocates_some : (p : Program) → HasSoundTypes p → (t : Ty) → is_sound p.aggregates t ≡ true → (points_to_complete p.aggregates t ≡ true) ⊎ IsChannel t → AllocatesSome p (out-Ty t)
 unfolding points_to_complete out-Ty out hidden-the_row-Ty-0 shown-the_row-Ty-0 hidden shown
-allocates_some p W R t s (inl h) = on (out-Ty t) (sym (roll-out-Ty t)) h
+allocates_some p W t s (inl h) = on (out-Ty t) (sym (roll-out-Ty t)) h
   where
     on : (y : Ty-F Ty) → t ≡ roll-Ty y → points_to_complete_at p.aggregates y ≡ true → AllocatesSome p y
     on (Ty-F.Pointer to) e h =
-        some_bytes p W R.unions to (sym (sound_pointer p.aggregates to) ∙ (sym (ap (is_sound p.aggregates) (e ∙ ty.rolls-Pointer to)) ∙ s)) h
+        some_bytes p W to (sym (sound_pointer p.aggregates to) ∙ (sym (ap (is_sound p.aggregates) (e ∙ ty.rolls-Pointer to)) ∙ s)) h
     on _ e h = tt
-allocates_some p W R t s (inr h) = subst (λ t. AllocatesSome p (out-Ty t)) (sym h.1.1) tt
+allocates_some p W t s (inr h) = subst (λ t. AllocatesSome p (out-Ty t)) (sym h.1.1) tt
 
-allocation_works : (p : Program) → IsWellTyped p → HasRoom p → (n : ℕ) (ps : List TPlace) → In p n (λ s. AllByRecursion (Allocates s) ps) → WorksAre p n (flat_map allocation_work ps)
-allocation_works p W R n [] x = tt
-allocation_works p W R n (place ∷ ps) x =
-    let y : In p n (λ s. IsPlace s place) = narrow x (λ s v. v.0.0) in
-    let sound = sound_place p W n place y in
-    each_append (WorkIs p n) (allocation_work place) (flat_map allocation_work ps)
-    (y, ((allocation_fits p (place_type place) sound, allocates_some p W R (place_type place) sound x.term.0.1), (sound_small p (place_type place) sound, tt)))
-    (allocation_works p W R n ps (narrow x (λ s v. v.1)))
+allocation_works : (p : Program) → HasSoundTypes p → (ps : List TPlace) → In p (λ s. AllByRecursion (Allocates s) ps) → WorksAre p (flat_map allocation_work ps)
+allocation_works p W [] x = tt
+allocation_works p W (place ∷ ps) x =
+    let y : In p (λ s. IsPlace s place) = narrow x (λ s v. v.0.0) in
+    let sound = sound_place p W place y in
+    each_append (WorkIs p) (allocation_work place) (flat_map allocation_work ps)
+    (y, ((allocation_fits p (place_type place) sound, allocates_some p W (place_type place) sound x.term.0.1), (sound_small p (place_type place) sound, tt)))
+    (allocation_works p W ps (narrow x (λ s v. v.1)))
 
-unallocation_works : (p : Program) (n : ℕ) (es : List TExpr) → In p n (λ s. AllByRecursion (GivesBack s) es) → WorksAre p n (flat_map unallocation_work es)
-unallocation_works p n [] x = tt
-unallocation_works p n (e ∷ es) x = (narrow x (λ s v. v.0.0), (tt, unallocation_works p n es (narrow x (λ s v. v.1))))
+unallocation_works : (p : Program) (es : List TExpr) → In p (λ s. AllByRecursion (GivesBack s) es) → WorksAre p (flat_map unallocation_work es)
+unallocation_works p [] x = tt
+unallocation_works p (e ∷ es) x = (narrow x (λ s v. v.0.0), (tt, unallocation_works p es (narrow x (λ s v. v.1))))
 
-calls_works : (p : Program) → IsWellTyped p → (n : ℕ) (then_do : ℕ → ℕ → Work) → ((f c : ℕ) → WorkIs p n (then_do f c)) → (es : List TExpr)
-    → In p n (λ s. AllByRecursion (IsCall s) es) → WorksAre p n (flat_map (λ e. call_work p e then_do) es)
-calls_works p W n then_do last [] x = tt
-calls_works p W n then_do last (e ∷ es) x =
-    each_append (WorkIs p n) (call_work p e then_do) (flat_map (λ e. call_work p e then_do) es)
-    (call_works p W n e then_do last (narrow x (λ s v. v.0.0))) (calls_works p W n then_do last es (narrow x (λ s v. v.1)))
+calls_works : (p : Program) → HasSoundTypes p → (then_do : ℕ → ℕ → Work) → ((f c : ℕ) → WorkIs p (then_do f c)) → (es : List TExpr)
+    → In p (λ s. AllByRecursion (IsCall s) es) → WorksAre p (flat_map (λ e. call_work p e then_do) es)
+calls_works p W then_do last [] x = tt
+calls_works p W then_do last (e ∷ es) x =
+    each_append (WorkIs p) (call_work p e then_do) (flat_map (λ e. call_work p e then_do) es)
+    (call_works p W e then_do last (narrow x (λ s v. v.0.0))) (calls_works p W then_do last es (narrow x (λ s v. v.1)))
 
-pub starts_it : (h : Here) (s : TStmt) → HereIs h → In h.program h.frame.function (Stands s) → NextIs h.program (starts h s)
+pub starts_it : (h : Here) (s : TStmt) → HereIs h → In h.program (Stands s) → NextIs h.program (starts h s)
 starts_it h s K x = does_items h (to_do s ∷ []) K (x, tt)
 
-pub starts_then_it : (h : Here) (s : TStmt) (w : Work) → HereIs h → In h.program h.frame.function (Stands s) → WorkIs h.program h.frame.function w
+pub starts_then_it : (h : Here) (s : TStmt) (w : Work) → HereIs h → In h.program (Stands s) → WorkIs h.program w
     → NextIs h.program (starts_then h s (w ∷ []))
 starts_then_it h s w K x k = does_items h (to_do s ∷ map (item h.line) (w ∷ [])) K (x, (k, tt))
 
-jumps_it : (h : Here) (number : ℕ) → IsWellTyped h.program → HasRoom h.program → HereIs h → NextIs h.program (jumps h (target_items h number))
+jumps_it : (h : Here) (number : ℕ) → HasSoundTypes h.program → HasRoom h.program → HereIs h → NextIs h.program (jumps h (target_items h number))
 jumps_it h number W R K =
     goes_on (record h { frame = record h.frame { items = unwrap_or (target_items h number) [] } })
-    (found_items h.program h.frame.function (target_items h number) (from_body h.program W R h.frame.function number (function_here h) refl), K.1)
+    (found_items h.program (target_items h number) (from_body h.program W R h.frame.function number (function_here h) refl), K.1)
 
-pub do_it : (s : TStmt) (h : Here) → IsWellTyped h.program → HasRoom h.program → HereIs h → In h.program h.frame.function (Stands s) → NextIs h.program (do_statement s h)
+pub do_it : (s : TStmt) (h : Here) → HasSoundTypes h.program → HasRoom h.program → HereIs h → In h.program (Stands s) → NextIs h.program (do_statement s h)
 unfolding IsStatement
 do_it (Empty _) h W R K x = goes_on h K
-do_it (Block' _ _ body) h W R K x = does_items h (statements body) K (body_items h.program h.frame.function body (narrow x (λ s v. (inside v.0, v.1))))
+do_it (Block' _ _ body) h W R K x = does_items h (statements body) K (body_items h.program body (narrow x (λ s v. (inside v.0, v.1))))
 do_it (Declare _ initializers) h W R K x =
     does_it h (flat_map initializer_work initializers) K
-    (initializer_works h.program W h.frame.function initializers (narrow x (λ s v. recursion_from_All (IsInitializer s) initializers v.1.0)))
+    (initializer_works h.program W initializers (narrow x (λ s v. recursion_from_All (IsInitializer s) initializers v.1.0)))
 do_it (Value _ [] value) h W R K x =
     does_it h (and_dropped value) K
-    (dropped_works h.program h.frame.function value (record { function = x.function; iterators = 0; is = x.is; term = x.term.1.0.1 }))
+    (dropped_works h.program value (record { iterators = 0; term = x.term.1.0.1 }))
 do_it (Value _ (b ∷ bs) value) h W R K x =
     let n : ℕ = length (b ∷ bs) in
-    let y : In h.program h.frame.function (λ s. IsValue s value) = record { function = x.function; iterators = n; is = x.is; term = x.term.1.0.1 } in
+    let y : In h.program (λ s. IsValue s value) = record { iterators = n; term = x.term.1.0.1 } in
     does_it h (evaluated (bounds_exprs (b ∷ bs)) ++ Bound (length (b ∷ bs)) value ∷ []) K
-    (each_append (WorkIs h.program h.frame.function) (evaluated (bounds_exprs (b ∷ bs))) (Bound (length (b ∷ bs)) value ∷ [])
-    (bounds_works h.program h.frame.function (b ∷ bs) (narrow x (λ s v. recursion_from_All (AreBounds s) (b ∷ bs) v.1.0.0)))
+    (each_append (WorkIs h.program) (evaluated (bounds_exprs (b ∷ bs))) (Bound (length (b ∷ bs)) value ∷ [])
+    (bounds_works h.program (b ∷ bs) (narrow x (λ s v. recursion_from_All (AreBounds s) (b ∷ bs) v.1.0.0)))
     ((x.term.1.1, y), tt))
 do_it (part.label _ _ body) h W R K x = starts_it h body K (narrow x (λ s v. (inside v.0, v.1)))
 do_it (If' _ condition _ (more_of-TStmt chosen end_of-TStmt) other) h W R K x =
     does_it h (Eval condition ∷ Choose chosen (other_of other) ∷ []) K (
       narrow x (λ s v. v.1.0.0.0),
-      ((narrow x (λ s v. (inside v.0, (v.1.0.1.0, v.1.1.0))), other_stands h.program h.frame.function other (narrow x (λ s v. (v.0, (v.1.0.1.1, v.1.1.1))))), tt),
+      ((narrow x (λ s v. (inside v.0, (v.1.0.1.0, v.1.1.0))), other_stands h.program other (narrow x (λ s v. (v.0, (v.1.0.1.1, v.1.1.1))))), tt),
     )
 do_it (part.while_loop line condition body) h W R K x =
     does_it h (Eval condition ∷ WhileTest (part.while_loop line condition body) ∷ []) K (narrow x (λ s v. v.1.0.0.0), (x, tt))
@@ -136,16 +137,16 @@ do_it (part.do_loop line body condition) h W R K x =
     starts_then_it h body (DoCondition (part.do_loop line body condition)) K (narrow x (λ s v. (in_loop v.0, (v.1.0.0, v.1.1)))) x
 do_it (part.for_loop line start condition step body) h W R K x =
     does_it h (optionally start ++ ForCondition (part.for_loop line start condition step body) ∷ []) K
-    (each_append (WorkIs h.program h.frame.function) (optionally start) (ForCondition (part.for_loop line start condition step body) ∷ [])
-    (optional_works h.program h.frame.function start (narrow x (λ s v. v.1.0.0))) (x, tt))
+    (each_append (WorkIs h.program) (optionally start) (ForCondition (part.for_loop line start condition step body) ∷ [])
+    (optional_works h.program start (narrow x (λ s v. v.1.0.0))) (x, tt))
 do_it (Switch' line value shape body) h W R K x =
     does_it h (Eval value ∷ Select (Switch' line value shape body) ∷ []) K (narrow x (λ s v. v.1.0.0), (x, tt))
 do_it (Case _ _) h W R K x = goes_on h K
 do_it Default h W R K x = goes_on h K
 do_it (Alt' line shape body) h W R K x =
     does_it h (evaluated (alt_exprs (communications (branchings body))) ++ AltTalk (Alt' line shape body) ∷ []) K
-    (each_append (WorkIs h.program h.frame.function) (evaluated (alt_exprs (communications (branchings body)))) (AltTalk (Alt' line shape body) ∷ [])
-    (alt_works h.program h.frame.function (branchings body) (alt_branches_are h.program h.frame.function (Alt' line shape body) x)) (x, tt))
+    (each_append (WorkIs h.program) (evaluated (alt_exprs (communications (branchings body)))) (AltTalk (Alt' line shape body) ∷ [])
+    (alt_works h.program (branchings body) (alt_branches_are h.program (Alt' line shape body) x)) (x, tt))
 do_it (AltCase _) h W R K x = goes_on h K
 do_it (Par _ branches) h W R K x = asks_it h (act.Par (map (branch_start h) branches)) (Answered ∷ []) (tt, omega arith) K (tt, tt)
 do_it (part.rescue _ _ _) h W R K x = goes_on h K
@@ -155,23 +156,23 @@ do_it (Return _ None) h W R K x = does_it h (Returns false ∷ []) K (tt, tt)
 do_it (Return _ (Some e)) h W R K x = does_it h (Eval e ∷ Returns true ∷ []) K (narrow x (λ s v. v.1.0.0), (tt, tt))
 do_it (Become _ call) h W R K x =
     does_it h (call_work h.program call InvokeInstead) K
-    (call_works h.program W h.frame.function call InvokeInstead (λ f c. tt) (narrow x (λ s v. v.1.0.0.0)))
+    (call_works h.program W call InvokeInstead (λ f c. tt) (narrow x (λ s v. v.1.0.0.0)))
 do_it (Break _ levels) h W R K x =
     goes_on (record h { frame = record h.frame { items = behind_bodies levels h.frame.items } })
-    (behind_is h.program h.frame.function levels h.frame.items K.0, K.1)
+    (behind_is h.program levels h.frame.items K.0, K.1)
 do_it (Continue _ levels) h W R K x =
     goes_on (record h { frame = record h.frame { items = next_of_loop levels h.frame.items } })
-    (next_is h.program h.frame.function levels h.frame.items K.0, K.1)
+    (next_is h.program levels h.frame.items K.0, K.1)
 do_it (Alloc _ places) h W R K x =
     does_it h (flat_map allocation_work places) K
-    (allocation_works h.program W R h.frame.function places (narrow x (λ s v. recursion_from_All (Allocates s) places v.1.0)))
+    (allocation_works h.program W places (narrow x (λ s v. recursion_from_All (Allocates s) places v.1.0)))
 do_it (Unalloc _ values) h W R K x =
     does_it h (flat_map unallocation_work values) K
-    (unallocation_works h.program h.frame.function values (narrow x (λ s v. recursion_from_All (GivesBack s) values v.1.0)))
+    (unallocation_works h.program values (narrow x (λ s v. recursion_from_All (GivesBack s) values v.1.0)))
 do_it (Check _ value) h W R K x = does_it h (Eval value ∷ Test ∷ []) K (narrow x (λ s v. v.1.0.0), (tt, tt))
 do_it (Proc _ calls) h W R K x =
     does_it h (flat_map (λ e. call_work h.program e StartProc) calls) K
-    (calls_works h.program W h.frame.function StartProc (λ f c. tt) calls (narrow x (λ s v. recursion_from_All (IsCall s) calls v.1.0)))
+    (calls_works h.program W StartProc (λ f c. tt) calls (narrow x (λ s v. recursion_from_All (IsCall s) calls v.1.0)))
 do_it (Task _ calls) h W R K x =
     does_it h (flat_map (λ e. call_work h.program e StartTask) calls) K
-    (calls_works h.program W h.frame.function StartTask (λ f c. tt) calls (narrow x (λ s v. recursion_from_All (IsCall s) calls v.1.0)))
+    (calls_works h.program W StartTask (λ f c. tt) calls (narrow x (λ s v. recursion_from_All (IsCall s) calls v.1.0)))

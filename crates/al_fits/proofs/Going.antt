@@ -28,12 +28,12 @@ each_flat P Q f g (x ∷ xs) h = each_append P (f x) (flat_map f xs) (g x h.0) (
 -- ---- controls
 
 abbrev pub HereIs : Here → Type 0
-HereIs h = AllByRecursion (ItemIs h.program h.frame.function) h.frame.items × AllByRecursion (FrameIs h.program) h.below
+HereIs h = AllByRecursion (ItemIs h.program) h.frame.items × AllByRecursion (FrameIs h.program) h.below
 
-abbrev pub WorksAre : Program → ℕ → List Work → Type 0
-WorksAre p f ws = AllByRecursion (WorkIs p f) ws
+abbrev pub WorksAre : Program → List Work → Type 0
+WorksAre p ws = AllByRecursion (WorkIs p) ws
 
-top_is : (p : Program) (f : Frame) (items : List Item) → AllByRecursion (ItemIs p f.function) items → TopIs p f items
+top_is : (p : Program) (f : Frame) (items : List Item) → AllByRecursion (ItemIs p) items → TopIs p f items
 top_is p f [] h = tt
 top_is p f (i ∷ items) h = (inl h.0, h.1)
 
@@ -51,10 +51,10 @@ pub resumed : (p : Program) (c : Control) (words : List ℕ) → AllByRecursion 
 resumed p c [] h = controlled p c.entering c.frames h
 resumed p c (w ∷ words) h = controlled p c.entering (with_given (Some (w ∷ words)) c.frames) (given_is p (Some (w ∷ words)) c.frames h)
 
-pub items_are : (p : Program) (f line : ℕ) (ws : List Work) (items : List Item) → WorksAre p f ws → AllByRecursion (ItemIs p f) items
-    → AllByRecursion (ItemIs p f) (map (item line) ws ++ items)
-items_are p f line [] items h k = k
-items_are p f line (w ∷ ws) items h k = (h.0, items_are p f line ws items h.1 k)
+pub items_are : (p : Program) (line : ℕ) (ws : List Work) (items : List Item) → WorksAre p ws → AllByRecursion (ItemIs p) items
+    → AllByRecursion (ItemIs p) (map (item line) ws ++ items)
+items_are p line [] items h k = k
+items_are p line (w ∷ ws) items h k = (h.0, items_are p line ws items h.1 k)
 
 -- ---- how a step goes on
 
@@ -67,22 +67,22 @@ finds_it h f K = goes_on (with_found (f ∷ h.frame.found) h) K
 pub gives_it : (h : Here) (words : List ℕ) → HereIs h → NextIs h.program (gives h words)
 gives_it h words K = finds_it h (Words words) K
 
-pub laid : (h : Here) (work : List Work) → HereIs h → WorksAre h.program h.frame.function work → HereIs (with_work work h)
-laid h work K w = (items_are h.program h.frame.function h.line work h.frame.items w K.0, K.1)
+pub laid : (h : Here) (work : List Work) → HereIs h → WorksAre h.program work → HereIs (with_work work h)
+laid h work K w = (items_are h.program h.line work h.frame.items w K.0, K.1)
 
-pub does_it : (h : Here) (work : List Work) → HereIs h → WorksAre h.program h.frame.function work → NextIs h.program (does h work)
+pub does_it : (h : Here) (work : List Work) → HereIs h → WorksAre h.program work → NextIs h.program (does h work)
 does_it h work K w = goes_on (with_work work h) (laid h work K w)
 
-pub laid_items : (h : Here) (items : List Item) → HereIs h → AllByRecursion (ItemIs h.program h.frame.function) items → HereIs (with_items items h)
-laid_items h items K k = (each_append (ItemIs h.program h.frame.function) items h.frame.items k K.0, K.1)
+pub laid_items : (h : Here) (items : List Item) → HereIs h → AllByRecursion (ItemIs h.program) items → HereIs (with_items items h)
+laid_items h items K k = (each_append (ItemIs h.program) items h.frame.items k K.0, K.1)
 
-pub does_items : (h : Here) (items : List Item) → HereIs h → AllByRecursion (ItemIs h.program h.frame.function) items → NextIs h.program (moves (with_items items h))
+pub does_items : (h : Here) (items : List Item) → HereIs h → AllByRecursion (ItemIs h.program) items → NextIs h.program (moves (with_items items h))
 does_items h items K k = goes_on (with_items items h) (laid_items h items K k)
 
 pub waits : (h : Here) (a : Act) → HereIs h → WaitIs h.program a (control_at h)
 waits h a K = λ words. resumed h.program (control_at h) (fitted a words) K
 
-pub asks_it : (h : Here) (a : Act) (work : List Work) → ActIs a → HereIs h → WorksAre h.program h.frame.function work → NextIs h.program (asks h a work)
+pub asks_it : (h : Here) (a : Act) (work : List Work) → ActIs a → HereIs h → WorksAre h.program work → NextIs h.program (asks h a work)
 asks_it h a work A K w = (A, waits (with_work work h) a (laid h work K w))
 
 pub traps_it : (h : Here) (t : Trap) → HereIs h → NextIs h.program (traps h t)
@@ -91,7 +91,7 @@ traps_it h t K = asks_it h (act.Trap t) (Answered ∷ []) (tt, omega arith) K (t
 pub lost_it : (h : Here) → HereIs h → NextIs h.program (lost h)
 lost_it h K = traps_it h trap.Illegal K
 
-pub turns_it : (h : Here) (work : List Work) → HereIs h → WorksAre h.program h.frame.function work → NextIs h.program (turns h work)
+pub turns_it : (h : Here) (work : List Work) → HereIs h → WorksAre h.program work → NextIs h.program (turns h work)
 turns_it h work K w = goes_on (with_work work h) (laid h work K w)
 
 pub either : (p : Program) (b : Bool) (x y : Next) → NextIs p x → NextIs p y → NextIs p (if b then x else y)

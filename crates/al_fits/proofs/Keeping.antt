@@ -7,7 +7,7 @@ use Rattle.al_event.specs.declared.act.Start.{Start}
 use Rattle.al_world.specs.Control.{fitted}
 use Rattle.al_world.specs.Turns.{Move, Moves, Turns, Asks, to_turn, with_turns}
 use Rattle.al_typed.specs.declared.program.Program.{Program}
-use Rattle.al_typed.specs.WellTyped.{IsWellTyped}
+use Rattle.al_typed.specs.Sound.{HasSoundTypes}
 use Rattle.al_meaning.specs.Items.{Frame, Entering, Control, most_turns}
 use Rattle.al_meaning.specs.Here.{Next}
 use Rattle.al_meaning.specs.Calls.{begun}
@@ -19,7 +19,7 @@ use Rattle.al_walk.specs.Fitting as fitting
 use Rattle.al_fits.proofs.Going.{controlled, resumed}
 use Rattle.al_fits.proofs.Working.{begun_is, enters_it, frame_steps}
 
-module _ (p : Program) (W : IsWellTyped p) (R : HasRoom p) where
+module _ (p : Program) (W : HasSoundTypes p) (R : HasRoom p) where
   frames_step : (c : Control) (frames : List Frame) (u : List ℕ) → c.frames ≡ frames → FramesAre p None frames → NextIs p (step_frames p c frames u)
   frames_step c [] u e K = ((tt, omega arith), λ words. resumed p c (fitted act.End words) (subst (AllByRecursion (FrameIs p)) (sym e) tt))
   frames_step c (f ∷ below) u e K = frame_steps p W R f.items f below u K.0 K.1

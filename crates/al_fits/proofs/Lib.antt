@@ -5,6 +5,7 @@ pub mod Going
 pub mod Units
 pub mod Within
 pub mod Bytes
+pub mod Weights
 pub mod Blocks
 pub mod Opened
 pub mod Starting

@@ -10,16 +10,18 @@ use Rattle.al_typed.specs.declared.ty.Ty.TheOpen.{Ty-F}
 use Rattle.al_typed.specs.declared.ty.Ty.TheVariants as ty
 use Rattle.al_typed.specs.declared.ty.Ty.TheViews.{out-Ty, roll-Ty, roll-out-Ty}
 use Rattle.al_typed.specs.declared.program.Aggregate.{Aggregate}
+use Rattle.al_typed.specs.declared.program.Function.{Function as FunctionRow}
 use Rattle.al_typed.specs.declared.program.Local.{Local}
 use Rattle.al_typed.specs.declared.program.Program.{Program}
 use Rattle.al_typed.specs.Types.{is_complete}
 use Rattle.al_typed.specs.Layout.{Layout, Run, Extent, Member, IsLaidOut, layout, size_of, members_layout, over_each_other, offsets_from, rounded, followed, widened, begun, member, further, beyond, row_of, row_at, number_at, members_of, member_offsets}
-use Rattle.al_typed.specs.WellTyped.{IsWellTyped, is_sound, is_stored, shared_types}
+use Rattle.al_typed.specs.WellTyped.{is_sound, is_stored, shared_types}
+use Rattle.al_typed.specs.Sound.{HasSoundTypes, IsSoundFunction}
 use Rattle.al_typed.proofs.CappedLemmas.{rounded_above}
 use Rattle.al_typed.proofs.Completeness.{layout-stays}
 use Rattle.al_typed.proofs.Fitting.{AllFit, layouts_fit}
 use Rattle.al_typed.proofs.Placing.{aggregate-members, in_order-end}
-use Rattle.al_meaning.specs.Places.{block_size, local_offset, shared_layouts}
+use Rattle.al_meaning.specs.Places.{block_size, function_at, local_offset, shared_layouts}
 
 -- ---- one after another
 
@@ -112,15 +114,20 @@ aggregate_size rows k a ms laid e is =
     ap (λ r. map (layout r) ms) (sym whole) ∙ all_stay (take k rows) (drop k rows) ms (recursion_from_All (λ t. is_complete (take k rows) t ≡ true) ms ordered) in
     ap (λ (l : Layout). l.size) (aggregate-members rows k a ms e is) ∙ ap (λ ls. (members_layout a.is_union ls).size) (sym same)
 
--- ---- paths
+-- ---- what stands at a number
 
-pub each_at : {A : Type 0} (P : A → Type 0) (xs : List A) (k : ℕ) (x : A) → AllByRecursion P xs → slice_get xs k ≡ Some x → P x
+each_at : {A : Type 0} (P : A → Type 0) (xs : List A) (k : ℕ) (x : A) → AllByRecursion P xs → slice_get xs k ≡ Some x → P x
 each_at P [] k x h e = absurd (cc)
 each_at P (y ∷ xs) zero x h e = let same : y ≡ x = cc in subst P same h.0
 each_at P (y ∷ xs) (suc k) x h e = each_at P xs k x h.1 e
 
 pub all_at : {A : Type 0} (P : A → Type 0) (xs : List A) (k : ℕ) (x : A) → All P xs → slice_get xs k ≡ Some x → P x
 all_at P xs k x h e = each_at P xs k x (recursion_from_All P xs h) e
+
+pub function_is : (p : Program) → HasSoundTypes p → (number : ℕ) (f : FunctionRow) → function_at p number ≡ Some f → IsSoundFunction p f
+function_is p W number f e = all_at (IsSoundFunction p) p.functions number f W.functions e
+
+-- ---- paths
 
 row_is : (rows : List Aggregate) (t : Ty) (a : Aggregate) → row_of rows t ≡ Some a → (k : ℕ) × ((t ≡ ty.Aggregate k) × (slice_get rows k ≡ Some a))
 unfolding row_of
@@ -134,7 +141,7 @@ row_is rows t a h = on (out-Ty t) (sym (roll-out-Ty t)) h
 abbrev pub Lies : Program → Ty → Member → Type 0
 Lies p t m = (m.at + size_of p.aggregates m.ty ≤ size_of p.aggregates t) × (is_sound p.aggregates t ≡ true → is_sound p.aggregates m.ty ≡ true)
 
-module _ (p : Program) (W : IsWellTyped p) where
+module _ (p : Program) (W : HasSoundTypes p) where
   step_lies : (t u : Ty) (a : Aggregate) (i at : ℕ) → row_of p.aggregates t ≡ Some a → slice_get (members_of (Some a)) i ≡ Some u
       → slice_get (member_offsets p.aggregates (Some a)) i ≡ Some at
       → (at + size_of p.aggregates u ≤ size_of p.aggregates t) × (is_sound p.aggregates u ≡ true)

@@ -16,14 +16,17 @@ use Rattle.al_typed.specs.declared.program.StartValue.{StartValue}
 use Rattle.al_typed.specs.declared.program.Program.{Program}
 use Rattle.al_typed.specs.Layout.{size_of, units_of}
 use Rattle.al_typed.specs.Types.{is_complete}
-use Rattle.al_typed.specs.WellTyped.{IsGlobal, IsWellTyped, Starts, is_sound}
+use Rattle.al_typed.specs.Measures.{IsWithin}
+use Rattle.al_typed.specs.Sound.{HasSoundTypes, IsSoundGlobal}
+use Rattle.al_typed.specs.WellTyped.{Starts, is_sound}
 use Rattle.al_meaning.specs.Places.{behind, block_place, block_sizes, global_bytes, is_shared_global, opening_blocks, start_number, with_start}
 use Rattle.al_meaning.specs.Meaning.{main_start, run, source}
-use Rattle.al_fits.specs.Controls.{HasRoom, IsModest, UnionsHaveMembers}
+use Rattle.al_fits.specs.Controls.{HasRoom}
 use Rattle.al_fits.proofs.Going.{each_append}
 use Rattle.al_fits.proofs.Within.{units_within}
 use Rattle.al_fits.proofs.Bytes.{some_bytes}
 use Rattle.al_fits.proofs.Blocks.{Filled, all_placed}
+use Rattle.al_fits.proofs.Weights.{few_functions, few_iterators}
 
 -- ---- how many bytes blocks have
 
@@ -56,12 +59,12 @@ each_weaker : {A : Type 0} (P Q : A → Type 0) → ((a : A) → P a → Q a) �
 each_weaker P Q f [] h = tt
 each_weaker P Q f (x ∷ xs) h = (f x h.0, each_weaker P Q f xs h.1)
 
-length-global : (p : Program) (g : Global) → IsGlobal p g → length (global_bytes p g) ≡ size_of p.aggregates g.ty
+length-global : (p : Program) (g : Global) → IsSoundGlobal p g → length (global_bytes p g) ≡ size_of p.aggregates g.ty
 length-global p g h =
     length-started p (size_of p.aggregates g.ty) g.start (replicate (size_of p.aggregates g.ty) 0) (length-replicate (size_of p.aggregates g.ty) 0)
     (each_weaker (Starts p g) (λ (v : StartValue). v.at + v.size ≤ size_of p.aggregates g.ty) (start_within p g) g.start (recursion_from_All (Starts p g) g.start h.starts))
 
-global_sizes : (p : Program) (gs : List Global) → AllByRecursion (IsGlobal p) gs → map length (map (global_bytes p) gs) ≡ map (λ (g : Global). size_of p.aggregates g.ty) gs
+global_sizes : (p : Program) (gs : List Global) → AllByRecursion (IsSoundGlobal p) gs → map length (map (global_bytes p) gs) ≡ map (λ (g : Global). size_of p.aggregates g.ty) gs
 global_sizes p [] h = refl
 global_sizes p (g ∷ gs) h = ap₂ (λ n ns. n ∷ ns) (length-global p g h.0) (global_sizes p gs h.1)
 
@@ -69,20 +72,20 @@ text_sizes : (texts : List (List ℕ)) → map length (map (λ s. s ++ 0 ∷ [])
 text_sizes [] = refl
 text_sizes (s ∷ texts) = ap₂ (λ n ns. n ∷ ns) (length-append s (0 ∷ [])) (text_sizes texts)
 
-module _ (p : Program) (W : IsWellTyped p) (U : UnionsHaveMembers p) where
-  shared : AllByRecursion (IsGlobal p) (filter is_shared_global p.globals)
-  shared = recursion_from_All (IsGlobal p) (filter is_shared_global p.globals) (All-filter is_shared_global (IsGlobal p) p.globals W.globals)
+module _ (p : Program) (W : HasSoundTypes p) where
+  shared : AllByRecursion (IsSoundGlobal p) (filter is_shared_global p.globals)
+  shared = recursion_from_All (IsSoundGlobal p) (filter is_shared_global p.globals) (All-filter is_shared_global (IsSoundGlobal p) p.globals W.globals)
 
   sizes_are : map length (opening_blocks p) ≡ block_sizes p
   sizes_are =
       map-append length (map (global_bytes p) (filter is_shared_global p.globals)) (map (λ s. s ++ 0 ∷ []) p.strings)
       ∙ ap₂ (λ ms ns. ms ++ ns) (global_sizes p (filter is_shared_global p.globals) shared) (text_sizes p.strings)
 
-  globals_some : (gs : List Global) → AllByRecursion (IsGlobal p) gs → AllByRecursion (λ (b : List ℕ). 1 ≤ length b) (map (global_bytes p) gs)
+  globals_some : (gs : List Global) → AllByRecursion (IsSoundGlobal p) gs → AllByRecursion (λ (b : List ℕ). 1 ≤ length b) (map (global_bytes p) gs)
   globals_some [] h = tt
   globals_some (g ∷ gs) h =
       let stored = and_parts (is_sound p.aggregates g.ty) (is_complete p.aggregates g.ty) h.0.stored in
-      (omega (arith, length-global p g h.0, some_bytes p W U g.ty stored.0 stored.1), globals_some gs h.1)
+      (omega (arith, length-global p g h.0, some_bytes p W g.ty stored.0 stored.1), globals_some gs h.1)
 
   texts_some : (texts : List (List ℕ)) → AllByRecursion (λ (b : List ℕ). 1 ≤ length b) (map (λ s. s ++ 0 ∷ []) texts)
   texts_some [] = tt
@@ -122,13 +125,12 @@ began p region h w e over = on (with_globals region (opening_blocks p) []) refl 
     on None is [] e = let same : first None ≡ w = cc in absurd (let end = ap (λ (w : World (source p)). w.shared.over) same ∙ over in cc)
     on None is (x ∷ h) e = absurd (none_run p h w e)
 
-pub room_of : (p : Program) → IsWellTyped p → IsModest p → (region : ℕ) (h : List Entry) (w : World (source p)) → region ≤ 2 ^ 28 → run p region h ≡ Some w
+pub room_of : (p : Program) → HasSoundTypes p → IsWithin p → (region : ℕ) (h : List Entry) (w : World (source p)) → region ≤ 2 ^ 28 → run p region h ≡ Some w
     → w.shared.over ≡ None → HasRoom p
 room_of p W M region h w le e over =
     let opens = began p region h w e over in
     record {
-      blocks = λ n within. blocks_lie p W M.unions region opens.0 le opens.1 n;
-      functions = M.functions;
-      iterators = M.iterators;
-      unions = M.unions;
+      blocks = λ n within. blocks_lie p W region opens.0 le opens.1 n;
+      functions = few_functions p M W;
+      iterators = few_iterators p M;
     }

@@ -8,7 +8,7 @@ use Rattle.al_world.specs.Actions.{first_task, performs}
 use Rattle.al_world.specs.Step.{after, opening, run_from, step, step_asked, step_held, task_of}
 use Rattle.al_world.specs.Step as world
 use Rattle.al_typed.specs.declared.program.Program.{Program}
-use Rattle.al_typed.specs.WellTyped.{IsWellTyped}
+use Rattle.al_typed.specs.Sound.{HasSoundTypes}
 use Rattle.al_meaning.specs.Places.{opening_blocks}
 use Rattle.al_meaning.specs.Items.{Control}
 use Rattle.al_meaning.specs.Meaning.{ask, main_start, run, source, start}
@@ -31,7 +31,7 @@ abbrev pub SomeHeld : (p : Program) → Option (World (source p)) → Type 0
 SomeHeld p (Some w) = AllHeld p w
 SomeHeld p None = ⊤
 
-module _ (p : Program) (W : IsWellTyped p) (R : HasRoom p) where
+module _ (p : Program) (W : HasSoundTypes p) (R : HasRoom p) where
   one_is : (m : Told) (h : Held Control) → HeldIs p h → HeldIs p (told_one (source p) m h)
   one_is (Answered words) (Waits a c) k = k words
   one_is (Answered words) (Goes c) k = k

@@ -1,4 +1,4 @@
--- Types of well-typed programs are small, and so are their members.
+-- Sound types are small, and so is what they are made of.
 use Rattle.std.proofs.Common.{◌≡◌, ℕ, ◌<◌, ◌≤◌, Bool, true, false, List, length, refl, ap, arith}
 use Rattle.std.specs.Prelude.{◌^◌, if◌then◌else◌}
 use Rattle.std.proofs.lemmas.Bool.{and_parts, leb-true}
@@ -18,7 +18,7 @@ use Rattle.al_typed.proofs.Fitting.{layout_fits}
 use Rattle.al_meaning.specs.Places.{words_in}
 use Rattle.al_control_values.specs.Fits.{IsSmall}
 
--- ---- types that the rules leave are small
+-- ---- sound types are small
 
 small_of : (rows : List AggregateRow) (t : Ty) → is_small rows t ≡ true → size_of rows t ≤ 2 ^ 28
 small_of rows t h = leb-true (size_of rows t) (2 ^ 28) h
@@ -67,7 +67,7 @@ sound_sent rows t capacity h = (and_parts _ _ (and_parts _ _ h).0).0
 -- ---- words
 
 -- a small type has few units, and words
-pub at_most_words : (p : Program) (t : Ty) → IsSmall p t → words_in p t ≤ 2 ^ 28
+at_most_words : (p : Program) (t : Ty) → IsSmall p t → words_in p t ≤ 2 ^ 28
 unfolding words_of
 at_most_words p t small = on (is_array t)
   where

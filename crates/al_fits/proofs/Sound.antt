@@ -1,13 +1,10 @@
--- The types of well-typed terms are sound.
-use Rattle.std.proofs.Common.{◌≡◌, ℕ, zero, suc, Bool, true, false, ◌||◌, List, [], ◌∷◌, map, take, Some, refl, ap, sym, ◌∙◌, subst, inl, inr}
-use Rattle.std.specs.Prelude.{not, slice_get}
-use Rattle.std.specs.List.{AllByRecursion}
-use Rattle.std.proofs.lemmas.Bool.{and_parts, and_from}
-use Rattle.std.proofs.lemmas.List.Elements.{recursion_from_All}
-use Rattle.al_typed.specs.declared.ty.Ty.{Ty, Row_of-Ty, end_of-Ty, more_of-Ty, items-the_row-Ty, items_hidden-the_row-Ty-1}
-use Rattle.al_typed.specs.declared.ty.Ty.TheBlock.{hidden-the_row-Ty-0, hidden-the_row-Ty-1}
-use Rattle.al_typed.specs.declared.ty.Ty.TheViews.{out-Ty}
-use denote.Hole.Carrier.{hidden, out}
+-- The types of well-typed terms are sound, among any names of sound types.
+use Rattle.std.proofs.Common.{◌≡◌, ℕ, List, Some, refl, ap, sym, ◌∙◌}
+use Rattle.std.specs.Prelude.{true, slice_get}
+use Rattle.std.proofs.lemmas.Bool.{and_parts}
+use Rattle.al_typed.specs.declared.ty.Ty.{Ty}
+use Rattle.al_typed.specs.declared.ty.Ty.TheBlock.{hidden-the_row-Ty-0}
+use denote.Hole.Carrier.{hidden}
 use Rattle.al_typed.specs.declared.ty.Ty.TheVariants as ty
 use Rattle.al_typed.specs.declared.program.Aggregate.{Aggregate as AggregateRow}
 use Rattle.al_typed.specs.declared.program.Local.{Local as LocalRow}
@@ -16,70 +13,30 @@ use Rattle.al_typed.specs.declared.program.Program.{Program}
 use Rattle.al_typed.specs.declared.expression.TExpr.{TExpr, Constant, Text, Nil, Function, SizeofType, Tuple', Call', CallPointer', Print', Sequence', Iterator, end_of-TExpr, more_of-TExpr}
 use Rattle.al_typed.specs.declared.expression.TPlace.{TPlace, Local, Outer, Global}
 use Rattle.al_typed.specs.ExpressionForms as form
-use Rattle.al_typed.specs.Types.{is_array, is_whole, is_void}
-use Rattle.al_typed.specs.Typed.{type_of, place_type, function_type, parameter_types}
-use Rattle.al_typed.specs.WellTyped.{IsWellTyped, IsGlobal, IsLocalOf, IsPlace, IsValue, LeadsTo, is_sound, are_sound}
+use Rattle.al_typed.specs.Typed.{type_of, place_type}
+use Rattle.al_typed.specs.WellTyped.{IsPlace, IsValue, LeadsTo, is_sound, is_stored}
+use Rattle.al_typed.specs.Sound.{HasSoundTypes, scope_of}
 use Rattle.al_meaning.specs.Places.{function_at}
 use Rattle.al_control_values.specs.Fits.{IsSmall}
-use Rattle.al_fits.specs.Controls.{scope}
 use Rattle.al_fits.proofs.Sizes.{sound_small, sound_pointer, sound_element, sound_sent}
-use Rattle.al_fits.proofs.Members.{all_at, path_lies}
+use Rattle.al_fits.proofs.Members.{all_at, function_is, path_lies}
 
--- ---- types of functions
-
-pub sound_returned : (rows : List AggregateRow) (t : Ty) (ts : List Ty) → is_sound rows (ty.Function t ts) ≡ true → is_sound rows t ≡ true
+-- what a function returns
+sound_returned : (rows : List AggregateRow) (t : Ty) (ts : List Ty) → is_sound rows (ty.Function t ts) ≡ true → is_sound rows t ≡ true
 unfolding hidden-the_row-Ty-0 hidden
 sound_returned rows t ts h = (and_parts _ _ (and_parts _ _ h).0).0
 
-items_sound : (rows : List AggregateRow) {m : _} (row : Row_of-Ty m)
-    → AllByRecursion (λ t. (is_sound rows t ≡ true) × (is_whole rows t ≡ true)) (items-the_row-Ty m row) → are_sound rows row ≡ true
-items_sound rows end_of-Ty h = refl
-items_sound rows (more_of-Ty t rest) h = and_from _ _ (and_from _ _ h.0.0 h.0.1) (items_sound rows rest h.1)
-
-parameters_sound : (p : Program) (n : ℕ) (ls : List LocalRow) → AllByRecursion (IsLocalOf p) ls
-    → AllByRecursion (λ t. is_array t ≡ false) (map (λ (l : LocalRow). l.ty) (take n ls))
-    → AllByRecursion (λ t. (is_sound p.aggregates t ≡ true) × (is_whole p.aggregates t ≡ true)) (map (λ (l : LocalRow). l.ty) (take n ls))
-parameters_sound p zero ls h k = tt
-parameters_sound p (suc n) [] h k = tt
-parameters_sound p (suc n) (l ∷ ls) h k =
-    let stored = and_parts _ _ h.0.0 in
-    ((stored.0, and_from _ _ stored.1 (ap not k.0)), parameters_sound p n ls h.1 k.1)
-
-module _ (p : Program) (W : IsWellTyped p) where
+module _ (p : Program) (W : HasSoundTypes p) where
   same : (t u : Ty) → t ≡ u → is_sound p.aggregates u ≡ true → is_sound p.aggregates t ≡ true
   same t u e h = ap (is_sound p.aggregates) e ∙ h
 
-  pub returns_sound : (n : ℕ) (g : FunctionRow) → slice_get p.functions n ≡ Some g → is_sound p.aggregates g.returns ≡ true
-  returns_sound n g e = elim (W.functions n g e).returns [
-    | inl void ↦ same g.returns ty.Void void refl
-    | inr x ↦ (and_parts _ _ x.0).0
-  ]
+  stored : (t : Ty) → is_stored p.aggregates t ≡ true → is_sound p.aggregates t ≡ true
+  stored t h = (and_parts _ _ h).0
 
-  returns_whole : (n : ℕ) (g : FunctionRow) → slice_get p.functions n ≡ Some g → (is_void g.returns || is_whole p.aggregates g.returns) ≡ true
-  unfolding is_void out-Ty out
-  returns_whole n g e = elim (W.functions n g e).returns [
-    | inl void ↦ ap (λ t. is_void t || is_whole p.aggregates t) void
-    | inr x ↦ on (is_void g.returns) (and_from _ _ (and_parts _ _ x.0).1 (ap not x.1))
-  ]
-    where
-      on : (b : Bool) → is_whole p.aggregates g.returns ≡ true → (b || is_whole p.aggregates g.returns) ≡ true
-      on true h = refl
-      on false h = h
+  pub local_sound : (n : ℕ) (f : FunctionRow) (k : ℕ) (l : LocalRow) → function_at p n ≡ Some f → slice_get f.locals k ≡ Some l → is_sound p.aggregates l.ty ≡ true
+  local_sound n f k l e is = stored l.ty (all_at (λ (l : LocalRow). is_stored p.aggregates l.ty ≡ true) f.locals k l (function_is p W n f e).locals is)
 
-  pub local_sound : (n : ℕ) (f : FunctionRow) (k : ℕ) (l : LocalRow) → slice_get p.functions n ≡ Some f → slice_get f.locals k ≡ Some l → is_sound p.aggregates l.ty ≡ true
-  local_sound n f k l e is = (and_parts _ _ (all_at (IsLocalOf p) f.locals k l (W.functions n f e).locals is).0).0
-
-  function_sound : (n : ℕ) (g : FunctionRow) → slice_get p.functions n ≡ Some g → is_sound p.aggregates (function_type g) ≡ true
-  unfolding hidden-the_row-Ty-0 hidden
-  function_sound n g e =
-      let f = W.functions n g e in
-      let each = parameters_sound p g.parameters g.locals (recursion_from_All _ _ f.locals) (recursion_from_All _ _ f.no_arrays) in
-      let parameters : are_sound p.aggregates (hidden-the_row-Ty-1 (parameter_types g)) ≡ true =
-      items_sound p.aggregates (hidden-the_row-Ty-1 (parameter_types g))
-      (subst (AllByRecursion (λ t. (is_sound p.aggregates t ≡ true) × (is_whole p.aggregates t ≡ true))) (sym (items_hidden-the_row-Ty-1 (parameter_types g))) each) in
-      and_from _ _ (and_from _ _ (returns_sound n g e) (returns_whole n g e)) parameters
-
-  pub leads_sound : (path : List ℕ) (t u : Ty) → LeadsTo p.aggregates path t u → is_sound p.aggregates t ≡ true → is_sound p.aggregates u ≡ true
+  leads_sound : (path : List ℕ) (t u : Ty) → LeadsTo p.aggregates path t u → is_sound p.aggregates t ≡ true → is_sound p.aggregates u ≡ true
   leads_sound path t u h s = same u h.0.ty (sym h.1.1) ((path_lies p W path t h.0 h.1.0).1 s)
 
   -- what a pointer leads to, and what a channel takes
@@ -89,17 +46,17 @@ module _ (p : Program) (W : IsWellTyped p) where
   pointer_is : (t u : Ty) → t ≡ ty.Pointer u → is_sound p.aggregates u ≡ true → is_sound p.aggregates t ≡ true
   pointer_is t u e h = same t (ty.Pointer u) e (sound_pointer p.aggregates u ∙ h)
 
-  -- ---- terms of a function
+  -- ---- terms
 
-  module _ (k : ℕ) (f : FunctionRow) (i : ℕ) (q : function_at p k ≡ Some f) where
+  module _ (i : ℕ) where
     mutual
       unfolding IsValue IsPlace
 
-      pub value_sound : (e : TExpr) → IsValue (scope p f i) e → is_sound p.aggregates (type_of e) ≡ true
+      pub value_sound : (e : TExpr) → IsValue (scope_of p i) e → is_sound p.aggregates (type_of e) ≡ true
       value_sound (Constant t bits) h = same t (ty.Integer h.0) h.1.0 refl
       value_sound (Text t number) h = pointer_is t _ h.0 refl
       value_sound (Nil t) h = pointer_is t ty.Void h refl
-      value_sound (Function t number) h = pointer_is t (function_type h.0) h.1.1 (function_sound number h.0 h.1.0.0)
+      value_sound (Function t number) h = h.0
       value_sound (form.load t place) h = same t _ (sym h.1.0) (place_sound place h.0)
       value_sound (form.decay t place) h =
           pointer_is t h.1.0 h.1.1.1 (sound_element p.aggregates h.1.0 h.1.1.0.0 (sym (ap (is_sound p.aggregates) h.1.1.0.1) ∙ place_sound place h.0))
@@ -118,7 +75,7 @@ module _ (p : Program) (W : IsWellTyped p) where
       value_sound (form.stepped t op place) h = same t _ (sym h.1.0) (place_sound place h.0)
       value_sound (form.zerox t place) h = same t _ (sym h.1.0) (place_sound place h.0)
       value_sound (Tuple' t _ parts) h = h.0
-      value_sound (Call' t number receiver _ arguments) h = same t _ h.1.1.0 (returns_sound number h.0 h.1.0.0)
+      value_sound (Call' t number receiver _ arguments) h = h.1.1.1
       value_sound (CallPointer' t _ (more_of-TExpr pointer end_of-TExpr) _ arguments) h =
           sound_returned p.aggregates t _ (target_is (type_of pointer) _ h.1.1 (value_sound pointer h.0))
       value_sound (Print' t format _ arguments) h = same t _ h.0 refl
@@ -133,19 +90,18 @@ module _ (p : Program) (W : IsWellTyped p) where
       value_sound (Sequence' t _ first _ (more_of-TExpr last end_of-TExpr)) h = same t _ (sym h.1.1) (value_sound last h.1.0)
       value_sound (Iterator t number) h = same t _ h.0 refl
 
-      pub place_sound : (place : TPlace) → IsPlace (scope p f i) place → is_sound p.aggregates (place_type place) ≡ true
-      place_sound (Local t number) h = same t h.0.ty (sym h.1.1) (local_sound k f number h.0 q h.1.0)
-      place_sound (Outer t around number) h = same t h.var.ty (sym h.is) (local_sound h.outer h.function number h.var h.is_there h.is_local)
-      place_sound (Global t number) h =
-          same t h.0.ty (sym h.1.1) (and_parts _ _ (all_at (IsGlobal p) p.globals number h.0 W.globals h.1.0).stored).0
+      pub place_sound : (place : TPlace) → IsPlace (scope_of p i) place → is_sound p.aggregates (place_type place) ≡ true
+      place_sound (Local t number) h = stored t h
+      place_sound (Outer t around number) h = stored t h
+      place_sound (Global t number) h = stored t h
       place_sound (form.pointed t pointer) h = target_is (type_of pointer) t h.1 (value_sound pointer h.0)
       place_sound (form.element t base index) h = target_is (type_of base) t h.1.1.0 (value_sound base h.1.0)
       place_sound (form.member_in t of path) h = leads_sound path (place_type of) t h.1 (place_sound of h.0)
       place_sound (form.pointed_member t pointer path) h =
           leads_sound path h.0 t h.1.1.1 (target_is (type_of pointer) h.0 h.1.1.0 (value_sound pointer h.1.0))
 
-    pub value_small : (e : TExpr) → IsValue (scope p f i) e → IsSmall p (type_of e)
+    pub value_small : (e : TExpr) → IsValue (scope_of p i) e → IsSmall p (type_of e)
     value_small e h = sound_small p (type_of e) (value_sound e h)
 
-    pub place_small : (place : TPlace) → IsPlace (scope p f i) place → IsSmall p (place_type place)
+    pub place_small : (place : TPlace) → IsPlace (scope_of p i) place → IsSmall p (place_type place)
     place_small place h = sound_small p (place_type place) (place_sound place h)

@@ -1,36 +1,34 @@
--- The first world of a well-typed program has numbers that fit.
-use Rattle.std.proofs.Common.{◌≡◌, ℕ, suc, ◌+◌, ◌*◌, ◌<◌, ◌≤◌, Bool, true, false, if◌then◌else◌, List, [], ◌∷◌, length, refl, sym, ◌∙◌, subst, arith, inl, inr, take, map, zero}
-use Rattle.std.specs.Prelude.{◌^◌, ◌⊎◌, filter, fold, sum_by}
+-- The first world of a program of sound types, within the measures and short, has numbers that fit.
+use Rattle.std.proofs.Common.{◌≡◌, ℕ, suc, ◌+◌, ◌*◌, ◌<◌, ◌≤◌, Bool, true, false, if◌then◌else◌, List, [], ◌∷◌, length, refl, arith, inl, inr, take, map, zero}
+use Rattle.std.specs.Prelude.{◌^◌, filter, fold, Option, Some, None}
 use Rattle.std.specs.List.{AllByRecursion}
 use Rattle.std.proofs.lemmas.Bool.{and_parts}
 use Rattle.std.proofs.lemmas.List.Elements.{All-contains, All-filter, All-from_recursion, All-weaker, recursion_from_All}
-use Rattle.al_base.specs.declared.arith.Kind.TheVariants.{Byte}
-use Rattle.al_typed.specs.declared.ty.Ty.TheVariants as ty
 use Rattle.al_store.specs.Memory.{IsWidth}
 use Rattle.al_typed.specs.declared.layout.Unit.{Unit}
-use Rattle.al_typed.specs.declared.ty.Ty.{Ty}
+use Rattle.al_typed.specs.declared.program.Function.{Function as FunctionRow}
 use Rattle.al_typed.specs.declared.program.Global.{Global}
 use Rattle.al_typed.specs.declared.program.StartValue.{StartValue}
 use Rattle.al_typed.specs.declared.program.StartWord.{StartWord}
 use Rattle.al_typed.specs.declared.program.StartWord.TheVariants as start
 use Rattle.al_typed.specs.declared.program.Program.{Program}
 use Rattle.al_typed.specs.Layout.{size_of, units_of}
-use Rattle.al_typed.specs.Types.{byte_pointer, int}
-use Rattle.al_typed.specs.Typed.{parameter_types}
-use Rattle.al_typed.specs.WellTyped.{FitsIn, IsGlobal, IsWellTyped, Starts, is_sound}
-use Rattle.al_meaning.specs.Places.{behind, block_sizes, shared_before, is_shared_global, private_words_of, words_in, text_place}
+use Rattle.al_typed.specs.Measures.{IsWithin}
+use Rattle.al_typed.specs.Sound.{HasSoundTypes, IsShort, IsSoundGlobal}
+use Rattle.al_typed.specs.WellTyped.{FitsIn, Starts, is_sound}
+use Rattle.al_meaning.specs.Places.{behind, block_sizes, function_at, shared_before, is_shared_global, text_place}
 use Rattle.al_typed.specs.Types.{is_complete}
 use Rattle.al_event.specs.Store.{region_base}
 use Rattle.std.proofs.lemmas.Grind.{div_ceil_times}
 use Rattle.al_fits.proofs.Going.{each_append}
 use Rattle.al_fits.proofs.Rooms.{begin_fits, block_count}
 use Rattle.al_opening.specs.Opening.{GlobalFits, OpeningFits, StartFits, WordFits}
-use Rattle.al_fits.specs.Controls.{OpensModestly, UnionsHaveMembers}
 use Rattle.al_step.specs.Sources.{MainFits, words_of_parameters}
 use Rattle.al_step.specs.Sources as sources
-use Rattle.al_fits.proofs.Sizes.{at_most_words, sound_small, sound_pointer}
+use Rattle.al_fits.proofs.Sizes.{sound_small}
 use Rattle.al_fits.proofs.Units.{units_are}
 use Rattle.al_fits.proofs.Bytes.{some_bytes}
+use Rattle.al_fits.proofs.Weights.{few_parameters, few_private}
 use Rattle.al_fits.proofs.Opened.{start_within}
 
 few_bytes : (n : ℕ) → IsWidth n → n ≤ 4
@@ -61,7 +59,7 @@ fewer_kept f (x ∷ xs) = on (f x) (fewer_kept f xs)
     on true le = omega arith
     on false le = omega arith
 
-global_sizes_low : (p : Program) (gs : List Global) → AllByRecursion (IsGlobal p) gs → AllByRecursion (λ (s : ℕ). s ≤ 2 ^ 32) (map (λ (g : Global). size_of p.aggregates g.ty) gs)
+global_sizes_low : (p : Program) (gs : List Global) → AllByRecursion (IsSoundGlobal p) gs → AllByRecursion (λ (s : ℕ). s ≤ 2 ^ 32) (map (λ (g : Global). size_of p.aggregates g.ty) gs)
 global_sizes_low p [] h = tt
 global_sizes_low p (g ∷ gs) h =
     (omega (arith, sound_small p g.ty (and_parts (is_sound p.aggregates g.ty) (is_complete p.aggregates g.ty) h.0.stored).0), global_sizes_low p gs h.1)
@@ -70,15 +68,15 @@ text_sizes_low : (texts : List (List ℕ)) → AllByRecursion (λ (s : List ℕ)
 text_sizes_low [] h = tt
 text_sizes_low (s ∷ texts) h = (omega (arith, h.0), text_sizes_low texts h.1)
 
-module _ (p : Program) (W : IsWellTyped p) (U : UnionsHaveMembers p) (M : OpensModestly p) where
+module _ (p : Program) (W : HasSoundTypes p) (M : IsWithin p) (S : IsShort p) where
   text_low : (number : ℕ) → text_place p number + 1 < 2 ^ 64
   text_low number =
       let gs : List Global = filter is_shared_global p.globals in
       let sizes = each_append (λ (s : ℕ). s ≤ 2 ^ 32) (map (λ (g : Global). size_of p.aggregates g.ty) gs) (map (λ s. length s + 1) p.strings)
-      (global_sizes_low p gs (recursion_from_All (IsGlobal p) gs (All-filter is_shared_global (IsGlobal p) p.globals W.globals)))
-      (text_sizes_low p.strings (recursion_from_All (λ (s : List ℕ). length s + 1 < 2 ^ 32) p.strings M.strings)) in
+      (global_sizes_low p gs (recursion_from_All (IsSoundGlobal p) gs (All-filter is_shared_global (IsSoundGlobal p) p.globals W.globals)))
+      (text_sizes_low p.strings (recursion_from_All (λ (s : List ℕ). length s + 1 < 2 ^ 32) p.strings S.strings)) in
       bounded (length (block_sizes p)) (text_place p number)
-      (omega (arith, block_count p, fewer_kept is_shared_global p.globals, M.globals, M.texts))
+      (omega (arith, block_count p, fewer_kept is_shared_global p.globals, S.globals, S.texts))
       (places_low (block_sizes p) region_base (shared_before p (length p.globals) + number) sizes)
     where
       bounded : (count place : ℕ) → count ≤ 2 ^ 29 → place ≤ region_base + count * (2 ^ 32 + 7) → place + 1 < 2 ^ 64
@@ -100,65 +98,36 @@ module _ (p : Program) (W : IsWellTyped p) (U : UnionsHaveMembers p) (M : OpensM
         word = word_fits v.size v.word s.1;
       }
 
-  global_fits : (g : Global) → IsGlobal p g → GlobalFits p g
+  global_fits : (g : Global) → IsSoundGlobal p g → GlobalFits p g
   global_fits g h =
       let stored = and_parts (is_sound p.aggregates g.ty) _ h.stored in
       record {
         small = sound_small p g.ty stored.0;
-        some = some_bytes p W U g.ty stored.0 stored.1;
+        some = some_bytes p W g.ty stored.0 stored.1;
         starts = All-weaker (Starts p g) (StartFits p (size_of p.aggregates g.ty)) (value_fits g) g.start h.starts;
       }
 
   opening_fits : OpeningFits p
   opening_fits = record {
     globals =
-        All-weaker (IsGlobal p) (GlobalFits p) global_fits (filter is_shared_global p.globals)
-        (All-filter is_shared_global (IsGlobal p) p.globals W.globals);
-    strings = M.strings;
+        All-weaker (IsSoundGlobal p) (GlobalFits p) global_fits (filter is_shared_global p.globals)
+        (All-filter is_shared_global (IsSoundGlobal p) p.globals W.globals);
+    strings = S.strings;
   }
 
   -- ---- words
 
-  global_words : (g : Global) → IsGlobal p g → private_words_of p g ≤ 2 ^ 28
-  global_words g h = on g.is_private
-    where
-      few : words_in p g.ty ≤ 2 ^ 28
-      few = at_most_words p g.ty (sound_small p g.ty (and_parts (is_sound p.aggregates g.ty) _ h.stored).0)
-
-      on : (b : Bool) → (if b then words_in p g.ty else 0) ≤ 2 ^ 28
-      on true = few
-      on false = omega arith
-
-  more_words : (acc n len sum : ℕ) → n ≤ 2 ^ 28 → sum ≤ acc + n + len * 2 ^ 28 → sum ≤ acc + suc len * 2 ^ 28
-  more_words acc n len sum a b = omega arith
-
-  sum_from : (acc : ℕ) (gs : List Global) → AllByRecursion (IsGlobal p) gs → fold (λ a g. a + private_words_of p g) acc gs ≤ acc + length gs * 2 ^ 28
-  sum_from acc [] h = omega arith
-  sum_from acc (g ∷ gs) h =
-      more_words acc (private_words_of p g) (length gs) (fold (λ a g. a + private_words_of p g) (acc + private_words_of p g) gs)
-      (global_words g h.0) (sum_from (acc + private_words_of p g) gs h.1)
-
-  sum_words : (gs : List Global) → AllByRecursion (IsGlobal p) gs → sum_by (private_words_of p) gs ≤ length gs * 2 ^ 28
-  sum_words gs h = omega (arith, sum_from 0 gs h)
-
-  two_words : (ts : List Ty) → (ts ≡ []) ⊎ (ts ≡ int ∷ ty.Pointer byte_pointer ∷ []) → sum_by (words_in p) ts + 1 < 2 ^ 64
-  two_words ts (inl e) = subst (λ ts. sum_by (words_in p) ts + 1 < 2 ^ 64) (sym e) (omega arith)
-  two_words ts (inr e) =
-      subst (λ ts. sum_by (words_in p) ts + 1 < 2 ^ 64) (sym e)
-      (both (words_in p int) (words_in p (ty.Pointer byte_pointer)) (at_most_words p int (sound_small p int refl))
-      (at_most_words p (ty.Pointer byte_pointer) (sound_small p (ty.Pointer byte_pointer) (sound_pointer p.aggregates byte_pointer ∙ sound_pointer p.aggregates (ty.Integer Byte)))))
-    where
-      both : (m n : ℕ) → m ≤ 2 ^ 28 → n ≤ 2 ^ 28 → 0 + m + n + 1 < 2 ^ 64
-      both m n a b = omega arith
-
   main_words : MainFits p
-  main_words =
-      subst (λ o. words_of_parameters p o + 1 < 2 ^ 64) (sym W.main.is_there.0) (two_words (parameter_types W.main_function) W.main.parameters)
+  main_words = on (function_at p p.main) refl
+    where
+      on : (o : Option FunctionRow) → function_at p p.main ≡ o → words_of_parameters p o + 1 < 2 ^ 64
+      on None e = omega arith
+      on (Some f) e = omega (arith, few_parameters p M p.main f e)
 
   pub starts_fit : sources.StartFits p
   starts_fit = record {
     opening = opening_fits;
-    privates = omega (arith, sum_words p.globals (recursion_from_All (IsGlobal p) p.globals W.globals), M.globals);
+    privates = omega (arith, few_private p M);
     parameters = main_words;
     main = begin_fits p W p.main;
   }

@@ -22,7 +22,8 @@ use Rattle.al_typed.specs.declared.program.Program.{Program}
 use Rattle.al_typed.specs.declared.statement.TCommunication.{TCommunication}
 use Rattle.al_typed.specs.declared.statement.TStmt.{TStmt, Alt', AltCase, Row_of-TStmt, end_of-TStmt, more_of-TStmt}
 use Rattle.al_typed.specs.StatementForms as part
-use Rattle.al_typed.specs.WellTyped.{IsWellTyped, IsValue, IsStatement, alt_cases, in_loop, no_labels}
+use Rattle.al_typed.specs.Sound.{HasSoundTypes}
+use Rattle.al_typed.specs.WellTyped.{IsValue, IsStatement, alt_cases, in_loop}
 use Rattle.al_meaning.specs.Words.{bits_of, is_zero, is_below, operated, sum, fitted_to, part_of, zero_words, truth, operated_once, stepped_by, elements_between, converted}
 use Rattle.al_meaning.specs.Places.{block_size, function_at, has_block, locals_of, private_place, words_in}
 use Rattle.al_meaning.specs.Shown.{most_text, written}
@@ -40,7 +41,7 @@ use Rattle.al_fits.proofs.Going.{HereIs, WorksAre, address_it, asks_it, controll
 use Rattle.al_fits.proofs.Units.{units_are}
 use Rattle.al_fits.proofs.Bytes.{block_some}
 use Rattle.al_fits.proofs.Terms.{aim_it, dropped_works, eval_it, find_it, narrow}
-use Rattle.al_fits.proofs.Statements.{select_it, went_it}
+use Rattle.al_fits.proofs.Statements.{body_stands, select_it, went_it}
 use Rattle.al_fits.proofs.Doing.{do_it, optional_works, starts_it, starts_then_it}
 
 -- ---- values and places
@@ -68,10 +69,10 @@ write_it at [] words h x K = goes_on h K
 write_it at (u ∷ units) words h x K =
     asks_it h (act.Store (sum at u.at) u.size (slice_index words 0)) (Write at units (drop 1 words) ∷ []) (x.0, omega arith) K (x.1, tt)
 
-saves_are : (p : Program) (n : ℕ) (ts : List Ty) (places : List Found) (words : List ℕ) → AllByRecursion (IsSmall p) ts → WorksAre p n (saves p ts places words)
-saves_are p n [] places words h = tt
-saves_are p n (t ∷ ts) [] words h = tt
-saves_are p n (t ∷ ts) (f ∷ places) words h = (h.0, saves_are p n ts places (drop (words_in p t) words) h.1)
+saves_are : (p : Program) (ts : List Ty) (places : List Found) (words : List ℕ) → AllByRecursion (IsSmall p) ts → WorksAre p (saves p ts places words)
+saves_are p [] places words h = tt
+saves_are p (t ∷ ts) [] words h = tt
+saves_are p (t ∷ ts) (f ∷ places) words h = (h.0, saves_are p ts places (drop (words_in p t) words) h.1)
 
 saves_it : (h : Here) (t : Ty) (f : Found) (words given : List ℕ) → HereIs h → IsSmall h.program t → NextIs h.program (saves_and_gives h t f words given)
 saves_it h t f words given K small = does_it h (Save t words f ∷ Give given ∷ []) K (small, (tt, tt))
@@ -108,43 +109,36 @@ found_it : (h : Here) (words : List ℕ) (o : Option ℕ) → HereIs h → NextI
 found_it h words (Some number) K = invokes_it h number words K
 found_it h words None K = traps_it h trap.Call K
 
-block_works : (p : Program) (n : ℕ) (ls : List LocalRow) → WorksAre p n (block_work ls)
-block_works p n ls = on (has_block ls)
+block_works : (p : Program) (ls : List LocalRow) → WorksAre p (block_work ls)
+block_works p ls = on (has_block ls)
   where
-    on : (b : Bool) → WorksAre p n (if b then TakeBlock ∷ SetBlock ∷ [] else [])
+    on : (b : Bool) → WorksAre p (if b then TakeBlock ∷ SetBlock ∷ [] else [])
     on true = (tt, (tt, tt))
     on false = tt
 
-parameter_works : (p : Program) (n number count : ℕ) (ls : List LocalRow) (words : List ℕ) → WorksAre p n (parameter_work p number count ls words)
-parameter_works p n number zero ls words = tt
-parameter_works p n number (suc c) [] words = tt
-parameter_works p n number (suc c) (l ∷ ls) words = on l.is_shared (parameter_works p n (number + 1) c ls (drop (words_in p l.ty) words))
+parameter_works : (p : Program) (number count : ℕ) (ls : List LocalRow) (words : List ℕ) → WorksAre p (parameter_work p number count ls words)
+parameter_works p number zero ls words = tt
+parameter_works p number (suc c) [] words = tt
+parameter_works p number (suc c) (l ∷ ls) words = on l.is_shared (parameter_works p (number + 1) c ls (drop (words_in p l.ty) words))
   where
-    on : (b : Bool) → WorksAre p n (parameter_work p (number + 1) c ls (drop (words_in p l.ty) words))
-        → WorksAre p n ((if b then StoreParameter number (take (words_in p l.ty) words) ∷ [] else []) ++ parameter_work p (number + 1) c ls (drop (words_in p l.ty) words))
+    on : (b : Bool) → WorksAre p (parameter_work p (number + 1) c ls (drop (words_in p l.ty) words))
+        → WorksAre p ((if b then StoreParameter number (take (words_in p l.ty) words) ∷ [] else []) ++ parameter_work p (number + 1) c ls (drop (words_in p l.ty) words))
     on true x = (tt, x)
     on false x = x
 
 -- a function that begins, and so a task that starts
-pub begun_is : (p : Program) → IsWellTyped p → HasRoom p → (number : ℕ) (words : List ℕ) → FrameIs p (begun p number words)
+pub begun_is : (p : Program) → HasSoundTypes p → HasRoom p → (number : ℕ) (words : List ℕ) → FrameIs p (begun p number words)
 begun_is p W R number words = on (function_at p number) refl
   where
     on : (o : Option FunctionRow) → function_at p number ≡ o → FrameIs p (begun_function p number o words)
     on None e = tt
     on (Some f) e =
-        items_are p number f.line (block_work f.locals ++ parameter_work p 0 f.parameters f.locals words) (to_do f.body ∷ [])
-        (each_append (WorkIs p number) (block_work f.locals) (parameter_work p 0 f.parameters f.locals words) (block_works p number f.locals)
-        (parameter_works p number 0 f.parameters f.locals words)) (
-          record {
-            function = f;
-            iterators = 0;
-            is = e;
-            term = (record { number = number; breaks = 0; loops = 0; labels = no_labels }, ((W.functions number f e).body, R.iterators number f e));
-          },
-          tt,
-        )
+        items_are p f.line (block_work f.locals ++ parameter_work p 0 f.parameters f.locals words) (to_do f.body ∷ [])
+        (each_append (WorkIs p) (block_work f.locals) (parameter_work p 0 f.parameters f.locals words) (block_works p f.locals)
+        (parameter_works p 0 f.parameters f.locals words))
+        (body_stands p W R number f e, tt)
 
-pub enters_it : (p : Program) → IsWellTyped p → HasRoom p → (number : ℕ) (words : List ℕ) (c : Control) (frames : List Frame) (privates : List ℕ)
+pub enters_it : (p : Program) → HasSoundTypes p → HasRoom p → (number : ℕ) (words : List ℕ) (c : Control) (frames : List Frame) (privates : List ℕ)
     → AllByRecursion (FrameIs p) c.frames → AllByRecursion (FrameIs p) frames → NextIs p (enters p number words c frames privates)
 enters_it p W R number words c frames privates K below =
     either p (has_room p number frames) (Moves (record { entering = None; frames = begun p number words ∷ frames }) privates)
@@ -152,10 +146,10 @@ enters_it p W R number words c frames privates K below =
     (controlled p None (begun p number words ∷ frames) (begun_is p W R number words, below))
     ((tt, omega arith), λ answer. resumed p c (fitted (act.Trap trap.Stack) answer) K)
 
-only_is : (h : Here) (w : Work) → HereIs h → WorkIs h.program h.frame.function w → HereIs (only h (w ∷ []))
+only_is : (h : Here) (w : Work) → HereIs h → WorkIs h.program w → HereIs (only h (w ∷ []))
 only_is h w K x = ((x, tt), K.1)
 
-block_it : (h : Here) (w : Work) (next : Next) → HereIs h → WorkIs h.program h.frame.function w → NextIs h.program next → NextIs h.program (gives_block h (w ∷ []) next)
+block_it : (h : Here) (w : Work) (next : Next) → HereIs h → WorkIs h.program w → NextIs h.program next → NextIs h.program (gives_block h (w ∷ []) next)
 block_it h w next K x f =
     either h.program (has_block (locals_of (function_here h))) (Asks (act.Free h.frame.block FrameBlock) h.line (control_at (only h (w ∷ []))) h.privates) next
     ((tt, omega arith), waits (only h (w ∷ [])) (act.Free h.frame.block FrameBlock) (only_is h w K x)) f
@@ -224,20 +218,20 @@ gives_back_it (Ty-F.Function returns parameters) a h K = asks_it h (act.Free a H
 
 -- ---- loops
 
-while_it : (s : TStmt) (b : Bool) (h : Here) → HereIs h → In h.program h.frame.function (Stands s) → NextIs h.program (while_test s b h)
+while_it : (s : TStmt) (b : Bool) (h : Here) → HereIs h → In h.program (Stands s) → NextIs h.program (while_test s b h)
 unfolding IsStatement
 while_it s true h K x = goes_on h K
 while_it (part.while_loop line condition body) false h K x =
     starts_then_it h body (WhileAgain (part.while_loop line condition body)) K (narrow x (λ s v. (in_loop v.0, (v.1.0.1, v.1.1)))) x
 while_it _ false h K x = lost_it h K
 
-do_condition_it : (s : TStmt) (h : Here) → HereIs h → In h.program h.frame.function (Stands s) → NextIs h.program (do_condition s h)
+do_condition_it : (s : TStmt) (h : Here) → HereIs h → In h.program (Stands s) → NextIs h.program (do_condition s h)
 unfolding IsStatement
 do_condition_it (part.do_loop line body condition) h K x =
     does_it h (Eval condition ∷ DoTest (part.do_loop line body condition) ∷ []) K (narrow x (λ s v. v.1.0.1.0), (x, tt))
 do_condition_it _ h K x = lost_it h K
 
-for_condition_it : (s : TStmt) (h : Here) → HereIs h → In h.program h.frame.function (Stands s) → NextIs h.program (for_condition s h)
+for_condition_it : (s : TStmt) (h : Here) → HereIs h → In h.program (Stands s) → NextIs h.program (for_condition s h)
 unfolding IsStatement
 for_condition_it (part.for_loop line start (Some condition) step body) h K x =
     does_it h (Eval condition ∷ ForTest (part.for_loop line start (Some condition) step body) ∷ []) K (narrow x (λ s v. v.1.0.1.0.0), (x, tt))
@@ -245,24 +239,24 @@ for_condition_it (part.for_loop line start None step body) h K x =
     starts_then_it h body (ForNext (part.for_loop line start None step body)) K (narrow x (λ s v. (in_loop v.0, (v.1.0.1.1.1, v.1.1)))) x
 for_condition_it _ h K x = lost_it h K
 
-for_test_it : (s : TStmt) (b : Bool) (h : Here) → HereIs h → In h.program h.frame.function (Stands s) → NextIs h.program (for_test s b h)
+for_test_it : (s : TStmt) (b : Bool) (h : Here) → HereIs h → In h.program (Stands s) → NextIs h.program (for_test s b h)
 unfolding IsStatement
 for_test_it s true h K x = goes_on h K
 for_test_it (part.for_loop line start condition step body) false h K x =
     starts_then_it h body (ForNext (part.for_loop line start condition step body)) K (narrow x (λ s v. (in_loop v.0, (v.1.0.1.1.1, v.1.1)))) x
 for_test_it _ false h K x = lost_it h K
 
-for_next_it : (s : TStmt) (h : Here) → HereIs h → In h.program h.frame.function (Stands s) → NextIs h.program (for_next s h)
+for_next_it : (s : TStmt) (h : Here) → HereIs h → In h.program (Stands s) → NextIs h.program (for_next s h)
 unfolding IsStatement
 for_next_it (part.for_loop line start condition step body) h K x =
     does_it h (optionally step ++ ForAgain (part.for_loop line start condition step body) ∷ []) K
-    (each_append (WorkIs h.program h.frame.function) (optionally step) (ForAgain (part.for_loop line start condition step body) ∷ [])
-    (optional_works h.program h.frame.function step (narrow x (λ s v. v.1.0.1.1.0))) (x, tt))
+    (each_append (WorkIs h.program) (optionally step) (ForAgain (part.for_loop line start condition step body) ∷ [])
+    (optional_works h.program step (narrow x (λ s v. v.1.0.1.1.0))) (x, tt))
 for_next_it _ h K x = lost_it h K
 
 iterate_it : (number : ℕ) (bounds : List Bounds) (value : TExpr) (h : Here) → HereIs h → number + length bounds < 2 ^ 63
-    → In h.program h.frame.function (λ s. IsValue s value) → NextIs h.program (iterate number bounds value h)
-iterate_it number [] value h K few x = does_it h (and_dropped value) K (dropped_works h.program h.frame.function value x)
+    → In h.program (λ s. IsValue s value) → NextIs h.program (iterate number bounds value h)
+iterate_it number [] value h K few x = does_it h (and_dropped value) K (dropped_works h.program value x)
 iterate_it number (b ∷ rest) value h K few x =
     let g : Here = record h { frame = record h.frame { turns = take number h.frame.turns ++ b.from ∷ [] } } in
     either h.program (is_below b.from b.to) _ (moves h)
@@ -293,14 +287,14 @@ branch_count : (p : Program) (cs : List TCommunication) (values : List (List ℕ
 branch_count p [] values = refl
 branch_count p (c ∷ cs) values = omega (arith, branch_count p cs (drop (length (communication_exprs c)) values))
 
-few_branches : (p : Program) (n : ℕ) (s : TStmt) (values : List (List ℕ)) → In p n (Stands s) → length (alt_branches p (communications (cases_of s)) values) ≤ 64
+few_branches : (p : Program) (s : TStmt) (values : List (List ℕ)) → In p (Stands s) → length (alt_branches p (communications (cases_of s)) values) ≤ 64
 unfolding IsStatement
-few_branches p n (Alt' line shape body) values x = omega (arith, branch_count p (communications (branchings body)) values, few_cases body, x.term.1.0.1.0)
-few_branches p n _ values x = omega arith
+few_branches p (Alt' line shape body) values x = omega (arith, branch_count p (communications (branchings body)) values, few_cases body, x.term.1.0.1.0)
+few_branches p _ values x = omega arith
 
 -- ---- one item
 
-pub step_it : (w : Work) (h : Here) → IsWellTyped h.program → HasRoom h.program → HereIs h → WorkIs h.program h.frame.function w → NextIs h.program (step_work w h)
+pub step_it : (w : Work) (h : Here) → HasSoundTypes h.program → HasRoom h.program → HereIs h → WorkIs h.program w → NextIs h.program (step_work w h)
 step_it (Eval e) h W R K x = eval_it e h W K x
 step_it (Find place) h W R K x = find_it place h K x
 step_it (Aim target) h W R K x = aim_it target h K x
@@ -356,8 +350,8 @@ step_it (Assign target) h W R K x =
     value_it h (λ ws h. places_before (length (leaves_of target)) [] h (λ places h. does h (saves h.program (leaves_of target) places ws ++ Give ws ∷ []))) K
     (λ ws found. places_it (length (leaves_of target)) [] (with_found found h) (λ places h. does h (saves h.program (leaves_of target) places ws ++ Give ws ∷ [])) K
     (λ places found. does_it (with_found found h) (saves h.program (leaves_of target) places ws ++ Give ws ∷ []) K
-    (each_append (WorkIs h.program h.frame.function) (saves h.program (leaves_of target) places ws) (Give ws ∷ [])
-    (saves_are h.program h.frame.function (leaves_of target) places ws x) (tt, tt))))
+    (each_append (WorkIs h.program) (saves h.program (leaves_of target) places ws) (Give ws ∷ [])
+    (saves_are h.program (leaves_of target) places ws x) (tt, tt))))
 step_it (Update t change) h W R K x =
     two_it h (λ old value h. with_place h (λ f h. saves_updated h t f (updated h.program t change old value))) K
     (λ old value found. place_it (with_found found h) (λ f h. saves_updated h t f (updated h.program t change old value)) K
@@ -390,7 +384,7 @@ step_it (InvokeInstead function count) h W R K x =
     (λ values found. block_it (with_found found h) (Replace function (joined values)) (moves (only (with_found found h) (Replace function (joined values) ∷ []))) K tt
     (goes_on (only (with_found found h) (Replace function (joined values) ∷ [])) (only_is (with_found found h) (Replace function (joined values)) K tt)))
 step_it (Replace function words) h W R K x = K.1
-step_it TakeBlock h W R K x = asks_it h (act.Alloc (block_size h.program (locals_of (function_here h))) FrameBlock) (Answered ∷ []) (block_some h.program W R.unions h.frame.function, omega arith) K (tt, tt)
+step_it TakeBlock h W R K x = asks_it h (act.Alloc (block_size h.program (locals_of (function_here h))) FrameBlock) (Answered ∷ []) (block_some h.program W h.frame.function, omega arith) K (tt, tt)
 step_it SetBlock h W R K x =
     value_it h (λ ws h. moves (record h { frame = record h.frame { block = slice_index ws 0 } })) K
     (λ ws found. goes_on (record h { frame = record h.frame { block = slice_index ws 0; found = found } }) K)
@@ -460,7 +454,7 @@ step_it (Select s) h W R K x = value_it h (λ ws h. select s (bits_of ws) h) K (
 step_it (AltTalk s) h W R K x =
     values_it (length (alt_exprs (communications (cases_of s)))) [] h
     (λ values h. asks h (act.Talk (alt_branches h.program (communications (cases_of s)) values)) (AltWent s ∷ [])) K
-    (λ values found. asks_it (with_found found h) (act.Talk (alt_branches h.program (communications (cases_of s)) values)) (AltWent s ∷ []) (tt, few_branches h.program h.frame.function s values x) K (x, tt))
+    (λ values found. asks_it (with_found found h) (act.Talk (alt_branches h.program (communications (cases_of s)) values)) (AltWent s ∷ []) (tt, few_branches h.program s values x) K (x, tt))
 step_it (AltWent s) h W R K x =
     value_it h (λ ws h. goes_into h (slice_get (cases_of s) (slice_index ws 0)) (drop 1 ws)) K
     (λ ws found. went_it s (slice_index ws 0) (drop 1 ws) (with_found found h) W K x)
@@ -473,7 +467,7 @@ scanned_step (Scanned at pieces arguments text) h K x =
     value_it h (λ ws h. scanned (slice_index ws 0) at pieces arguments text h) K (λ ws found. scanned_it (slice_index ws 0) at pieces arguments text (with_found found h) K)
 scanned_step _ h K x = absurd x
 
-module _ (p : Program) (W : IsWellTyped p) (R : HasRoom p) where
+module _ (p : Program) (W : HasSoundTypes p) (R : HasRoom p) where
   pub frame_steps : (items : List Item) (f : Frame) (below : List Frame) (privates : List ℕ) → TopIs p f items → AllByRecursion (FrameIs p) below
       → NextIs p (step_frame p items f below privates)
   frame_steps [] f below privates K B =

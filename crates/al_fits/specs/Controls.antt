@@ -1,18 +1,18 @@
--- What is known of the controls of a well-typed program: each term in them is well typed in the function of its frame, and
--- each type in them is as small as the work with it needs.
-use Rattle.std.specs.Prelude.{All, slice_get, true, ◌≡◌, ℕ, ◌+◌, ◌<◌, ◌≤◌, ◌^◌, List, [], ◌∷◌, length, Option, Some, None, ⊤, ◌⊎◌}
+-- What is known of the controls of a program of sound types: each term in them is well typed among any names of sound types,
+-- and each type in them is as small as the work with it needs.
+use Rattle.std.specs.Prelude.{◌≡◌, ℕ, ◌+◌, ◌<◌, ◌≤◌, ◌^◌, List, [], ◌∷◌, length, Option, Some, None, ⊤, ◌⊎◌}
 use Rattle.std.specs.List.{AllByRecursion}
 use Rattle.al_event.specs.declared.act.Act.{Act}
 use Rattle.al_world.specs.Control.{fitted}
 use Rattle.al_world.specs.Turns.{Moves, Turns, Asks}
 use Rattle.al_typed.specs.declared.ty.Ty.{out-Ty, Ty}
 use Rattle.al_typed.specs.declared.program.Function.{Function as FunctionRow}
-use Rattle.al_typed.specs.declared.program.Aggregate.{Aggregate as AggregateRow}
 use Rattle.al_typed.specs.declared.program.Program.{Program}
 use Rattle.al_typed.specs.declared.statement.TStmt.{TStmt, Empty, Block', Declare, Value, If', Switch', Case, Default, Alt', AltCase, Par, Raise, Goto, Return, Become, Break, Continue, Alloc, Unalloc, Check, Proc, Task, Held-TStmt-If-3, Row_of-TStmt, end_of-TStmt, more_of-TStmt}
 use Rattle.al_typed.specs.declared.statement.TStmt as stmt
 use Rattle.al_typed.specs.StatementForms as part
 use Rattle.al_typed.specs.WellTyped.{Scope, Nest, IsValue, IsPlace, IsTarget, IsStatement}
+use Rattle.al_typed.specs.Sound.{scope_of}
 use Rattle.al_meaning.specs.Places.{block_place, block_sizes, function_at}
 use Rattle.al_meaning.specs.Items.{Found, Work, Eval, Find, Aim, AndThen, OrElse, Part, Read, Look, Fetch, Fetched, Save, Put, Write, Assign, Update, Step, Clear, PassPlace, PassPointer, PassPart, Scanned, Receives, Received, Sends, Allocate, Do, Choose, WhileTest, WhileAgain, DoCondition, DoTest, ForCondition, ForTest, ForNext, ForAgain, Bound, Iterate, NextTurn, Select, AltTalk, AltWent, Item, Frame, Entering, Control}
 use Rattle.al_meaning.specs.Here.{Next, pointee, size_in}
@@ -53,43 +53,19 @@ abbrev mutual
   HaveFewIterators end_of-TStmt = ⊤
   HaveFewIterators (more_of-TStmt a rest) = HasFewIterators a × HaveFewIterators rest
 
--- a union has a member
-abbrev pub UnionsHaveMembers : Program → Type 0
-UnionsHaveMembers p = (k : ℕ) (a : AggregateRow) → slice_get p.aggregates k ≡ Some a → a.is_union ≡ true → a.members ≡ Some [] → ⊥
-
--- What well-typed programs leave open: the values of functions' names are words, statements have few iterators, and values of
--- complete types have a byte.
-pub record IsModest (p : Program) : Type 0 where
-  pub functions : length p.functions ≤ 2 ^ 28
-  pub iterators : (number : ℕ) (f : FunctionRow) → function_at p number ≡ Some f → HasFewIterators f.body
-  pub unions : UnionsHaveMembers p
-
--- how many globals and strings there are, and how long these are, so that the first world can be made, or found to have no
--- room
-pub record OpensModestly (p : Program) : Type 0 where
-  pub globals : length p.globals ≤ 2 ^ 28
-  pub texts : length p.strings ≤ 2 ^ 28
-  pub strings : All (λ (s : List ℕ). length s + 1 < 2 ^ 32) p.strings
-
--- and the blocks at the start lie below 2^32, as they do where there is a first world in a region of at most 256 MiB
+-- What the measures of a program, and a first world in a region of at most 256 MiB, give: the blocks at the start lie below
+-- 2^32, the values of functions' names are words, and statements have few iterators.
 pub record HasRoom (p : Program) : Type 0 where
   pub blocks : (n : ℕ) → n ≤ length (block_sizes p) → block_place p n < 2 ^ 32
-  pub functions : length p.functions ≤ 2 ^ 28
+  pub functions : length p.functions ≤ 65536
   pub iterators : (number : ℕ) (f : FunctionRow) → function_at p number ≡ Some f → HasFewIterators f.body
-  pub unions : UnionsHaveMembers p
 
 -- ---- work
 
--- where the terms of a function stand, in a statement with so many iterators
-abbrev pub scope : Program → FunctionRow → ℕ → Scope
-scope p f iterators = record { program = p; function = f; iterators = iterators }
-
--- it holds of the function of that number, for some number of iterators
-pub record In (p : Program) (number : ℕ) (T : Scope → Type 0) : Type 0 where
-  pub function : FunctionRow
+-- it holds among any names of sound types, in a statement with some number of iterators
+pub record In (p : Program) (T : Scope → Type 0) : Type 0 where
   pub iterators : ℕ
-  pub is : function_at p number ≡ Some function
-  pub term : T (scope p function iterators)
+  pub term : T (scope_of p iterators)
 
 -- a statement that stands somewhere in a body
 abbrev pub Stands : TStmt → Scope → Type 0
@@ -108,59 +84,59 @@ abbrev pub AllocatesSome : Program → Ty-F Ty → Type 0
 AllocatesSome p (Ty-F.Pointer to) = 0 < size_in p to
 AllocatesSome p _ = ⊤
 
--- What is known of work in a frame of the function of that number.
-abbrev pub WorkIs : Program → ℕ → Work → Type 0
-WorkIs p f (Eval e) = In p f (λ s. IsValue s e)
-WorkIs p f (Find place) = In p f (λ s. IsPlace s place)
-WorkIs p f (Aim target) = In p f (λ s. IsTarget s target)
-WorkIs p f (AndThen right) = In p f (λ s. IsValue s right)
-WorkIs p f (OrElse right) = In p f (λ s. IsValue s right)
-WorkIs p f (Part t path) = PartFits p t path
-WorkIs p f (Read t) = IsSmall p t
-WorkIs p f (Look t) = IsSmall p t
-WorkIs p f (Fetch at units got) = AreUnits units
-WorkIs p f (Fetched at units got) = AreUnits units
-WorkIs p f (Save t words place) = IsSmall p t
-WorkIs p f (Put t) = IsSmall p t
-WorkIs p f (Write at units words) = AreUnits units
-WorkIs p f (Assign target) = AllByRecursion (IsSmall p) (leaves_of target)
-WorkIs p f (Update t change) = IsSmall p t × ChangeFits p t change
-WorkIs p f (Step t op) = IsSmall p t × IsSmall p (pointee t)
-WorkIs p f (Clear t) = IsSmall p t
-WorkIs p f (PassPlace how t offset) = IsSmall p t
-WorkIs p f (PassPointer how t offset) = IsSmall p t
-WorkIs p f (PassPart how t path) = PartFits p t path
+-- What is known of work.
+abbrev pub WorkIs : Program → Work → Type 0
+WorkIs p (Eval e) = In p (λ s. IsValue s e)
+WorkIs p (Find place) = In p (λ s. IsPlace s place)
+WorkIs p (Aim target) = In p (λ s. IsTarget s target)
+WorkIs p (AndThen right) = In p (λ s. IsValue s right)
+WorkIs p (OrElse right) = In p (λ s. IsValue s right)
+WorkIs p (Part t path) = PartFits p t path
+WorkIs p (Read t) = IsSmall p t
+WorkIs p (Look t) = IsSmall p t
+WorkIs p (Fetch at units got) = AreUnits units
+WorkIs p (Fetched at units got) = AreUnits units
+WorkIs p (Save t words place) = IsSmall p t
+WorkIs p (Put t) = IsSmall p t
+WorkIs p (Write at units words) = AreUnits units
+WorkIs p (Assign target) = AllByRecursion (IsSmall p) (leaves_of target)
+WorkIs p (Update t change) = IsSmall p t × ChangeFits p t change
+WorkIs p (Step t op) = IsSmall p t × IsSmall p (pointee t)
+WorkIs p (Clear t) = IsSmall p t
+WorkIs p (PassPlace how t offset) = IsSmall p t
+WorkIs p (PassPointer how t offset) = IsSmall p t
+WorkIs p (PassPart how t path) = PartFits p t path
 -- it comes only by an answer, and is done at once
-WorkIs p f (Scanned at pieces arguments text) = ⊥
-WorkIs p f (Receives t) = IsSmall p t
-WorkIs p f (Received t) = IsSmall p t
-WorkIs p f (Sends t) = IsSmall p t
-WorkIs p f (Allocate t) = AllocationFits p (out-Ty t) × AllocatesSome p (out-Ty t)
-WorkIs p f (Do s) = In p f (Stands s)
-WorkIs p f (Choose chosen other) = In p f (Stands chosen) × In p f (OtherStands other)
-WorkIs p f (WhileTest s) = In p f (Stands s)
-WorkIs p f (WhileAgain s) = In p f (Stands s)
-WorkIs p f (DoCondition s) = In p f (Stands s)
-WorkIs p f (DoTest s) = In p f (Stands s)
-WorkIs p f (ForCondition s) = In p f (Stands s)
-WorkIs p f (ForTest s) = In p f (Stands s)
-WorkIs p f (ForNext s) = In p f (Stands s)
-WorkIs p f (ForAgain s) = In p f (Stands s)
-WorkIs p f (Bound count value) = (count < 2 ^ 62) × In p f (λ s. IsValue s value)
-WorkIs p f (Iterate number bounds value) = (number + length bounds < 2 ^ 63) × In p f (λ s. IsValue s value)
-WorkIs p f (NextTurn number b rest value) = (number + (1 + length rest) < 2 ^ 63) × In p f (λ s. IsValue s value)
-WorkIs p f (Select s) = In p f (Stands s)
-WorkIs p f (AltTalk s) = In p f (Stands s)
-WorkIs p f (AltWent s) = In p f (Stands s)
-WorkIs p f _ = ⊤
+WorkIs p (Scanned at pieces arguments text) = ⊥
+WorkIs p (Receives t) = IsSmall p t
+WorkIs p (Received t) = IsSmall p t
+WorkIs p (Sends t) = IsSmall p t
+WorkIs p (Allocate t) = AllocationFits p (out-Ty t) × AllocatesSome p (out-Ty t)
+WorkIs p (Do s) = In p (Stands s)
+WorkIs p (Choose chosen other) = In p (Stands chosen) × In p (OtherStands other)
+WorkIs p (WhileTest s) = In p (Stands s)
+WorkIs p (WhileAgain s) = In p (Stands s)
+WorkIs p (DoCondition s) = In p (Stands s)
+WorkIs p (DoTest s) = In p (Stands s)
+WorkIs p (ForCondition s) = In p (Stands s)
+WorkIs p (ForTest s) = In p (Stands s)
+WorkIs p (ForNext s) = In p (Stands s)
+WorkIs p (ForAgain s) = In p (Stands s)
+WorkIs p (Bound count value) = (count < 2 ^ 62) × In p (λ s. IsValue s value)
+WorkIs p (Iterate number bounds value) = (number + length bounds < 2 ^ 63) × In p (λ s. IsValue s value)
+WorkIs p (NextTurn number b rest value) = (number + (1 + length rest) < 2 ^ 63) × In p (λ s. IsValue s value)
+WorkIs p (Select s) = In p (Stands s)
+WorkIs p (AltTalk s) = In p (Stands s)
+WorkIs p (AltWent s) = In p (Stands s)
+WorkIs p _ = ⊤
 
-abbrev pub ItemIs : Program → ℕ → Item → Type 0
-ItemIs p f i = WorkIs p f i.work
+abbrev pub ItemIs : Program → Item → Type 0
+ItemIs p i = WorkIs p i.work
 
 -- ---- controls
 
 abbrev pub FrameIs : Program → Frame → Type 0
-FrameIs p f = AllByRecursion (ItemIs p f.function) f.items
+FrameIs p f = AllByRecursion (ItemIs p) f.items
 
 -- a byte of a text was read just now
 abbrev pub IsScanned : List Found → Work → Type 0
@@ -170,7 +146,7 @@ IsScanned found _ = ⊥
 -- the innermost frame
 abbrev pub TopIs : Program → Frame → List Item → Type 0
 TopIs p f [] = ⊤
-TopIs p f (i ∷ items) = (ItemIs p f.function i ⊎ IsScanned f.found i.work) × AllByRecursion (ItemIs p f.function) items
+TopIs p f (i ∷ items) = (ItemIs p i ⊎ IsScanned f.found i.work) × AllByRecursion (ItemIs p) items
 
 abbrev pub FramesAre : Program → Option Entering → List Frame → Type 0
 FramesAre p (Some e) frames = AllByRecursion (FrameIs p) frames

@@ -1,5 +1,5 @@
-//! The numbers of well-typed programs fit in words. The definitions are in specs/; the function here does nothing, and its
-//! contract is the law.
+//! The numbers of programs of sound types within the measures fit in words. The definitions are in specs/; the function here
+//! does nothing, and its contract is the law.
 #![tactic(auto)]
 
 mod laws;

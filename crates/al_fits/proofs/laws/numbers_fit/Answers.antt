@@ -14,4 +14,4 @@ pub returns-clause-entries : goal.returns-clause-entries
 returns-clause-entries c = λ p region h w x W M le e few. entry_fits p region h w x W M le e few
 
 pub returns-clause-starts : goal.returns-clause-starts
-returns-clause-starts c = λ p W U M. starts_fit p W U M
+returns-clause-starts c = λ p W M S. starts_fit p W M S
