@@ -8,4 +8,4 @@ mod laws;
 mod walking;
 
 pub use laws::runs_have_room;
-pub use walking::{WalkStop, shown, walk};
+pub use walking::{ShowStop, WalkStop, shown, walk};

@@ -16,7 +16,7 @@ use al_event::Entry;
 use al_front::{FrontStop, front};
 use al_host::{Host, Sink};
 use al_items::Items;
-use al_show::{WalkStop, shown};
+use al_show::{ShowStop, shown};
 use al_typed::Program;
 use al_words::Job;
 use std::alloc::Global;
@@ -31,14 +31,13 @@ fn region_of(job: &Job) -> u32
     job.region * 0x10_0000
 }
 
-/// How a call ends whose walk stopped.
-fn end_of_walk(stop: WalkStop) -> End
-    ensures { result ≡ spec.end_of_walk stop }
+/// How a call ends that shows no world.
+fn end_of_show(stop: ShowStop) -> End
+    ensures { result ≡ spec.end_of_show stop }
 {
     match stop {
-        WalkStop::NotPermitted(number) => End::BadEntry(number),
-        WalkStop::TooLarge => End::TooLarge,
-        WalkStop::NoMemory => End::NoMemory,
+        ShowStop::NotPermitted(number) => End::BadEntry(number),
+        ShowStop::NoMemory => End::NoMemory,
     }
 }
 
@@ -56,7 +55,7 @@ fn show<K: Sink>(
 {
     let text = match shown(alloc, program, region, entries) {
         Ok(text) => text,
-        Err(stop) => return end_of_walk(stop),
+        Err(stop) => return end_of_show(stop),
     };
     match write_all(out, text.as_slice()) {
         Ok(()) => End::Made,
