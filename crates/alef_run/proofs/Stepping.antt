@@ -18,9 +18,10 @@ use Rattle.al_show.specs.Walks.{StopsShow}
 use Rattle.alef_run.specs.Call.{Call, IsRead, DidNothing, HostFails, LacksText, text_in}
 use Rattle.alef_run.specs.CheckMode.{most_of_text}
 use Rattle.alef_run.specs.Load.{KeepsTexts, LacksBytes, IsScheduleRead, LacksSchedule}
-use Rattle.alef_run.specs.StepMode.{EndsStep, EndsShow, HasText, HasBoth, HasNoSchedule, MadeNothing, IsProgramRead, IsFound, bytes_of_region, first_of, made_of, end_of_show}
+use Rattle.alef_run.specs.StepMode.{EndsStep, EndsShow, HasText, HasBoth, HasNoSchedule, MadeNothing, IsProgramRead, IsFound, MayBeShown, bytes_of_region, first_of, made_of, end_of_show}
 use Rattle.alef_run.specs.declared.report.End.{End}
 use Rattle.alef_run.specs.declared.report.End.TheVariants.{Ran, Made, Words, ReadFault, Refused, BadImage, BadSchedule, BadEntry, BadNumber, WriteFault, NoMemory}
+use Rattle.al_sound_texts.proofs.Texts.{accepted_is_sound}
 use Rattle.alef_run.proofs.Checks.{accepted_whole, refused_whole}
 
 -- ---- texts that stay
@@ -58,6 +59,13 @@ module _ (file : List ℕ) (told told_after : Option Content) (faults faults_aft
   }
   text_found (Err (stop.Refused r)) same laid is refused = (read, λ text named. refused_whole text front (f text named) r (refused r refl))
   text_found (Err stop.NoMemory) same laid is refused = read.calm
+
+-- ---- what may be shown
+
+-- that of each text that is accepted within the limits may be shown
+pub found_fits : (text : List ℕ) (found : Result Program FrontStop) → IfOk found (λ p. IsAccepted text p × IsWithin p) → IfOk found MayBeShown
+found_fits text (Ok p) h = let laws = accepted_is_sound text p h.0 in record { sound = laws.0; within = h.1; short = laws.1 }
+found_fits text (Err stop) h = h
 
 -- ---- what is shown
 
