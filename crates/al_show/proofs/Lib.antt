@@ -1,2 +1,3 @@
 pub mod Runs
 mod Walked
+pub mod Room

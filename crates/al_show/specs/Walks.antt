@@ -10,6 +10,8 @@ use Rattle.al_step.specs.declared.source.Source.{Source}
 use Rattle.al_step.specs.Sources.{Stands, IsSound, StartFits, EntryFits, world_of}
 use Rattle.al_show.specs.declared.walking.WalkStop.{WalkStop}
 use Rattle.al_show.specs.declared.walking.WalkStop.TheVariants as stop
+use Rattle.al_show.specs.declared.walking.ShowStop.{ShowStop}
+use Rattle.al_show.specs.declared.walking.ShowStop.TheVariants as show
 
 -- ---- along all entries
 
@@ -40,6 +42,11 @@ abbrev pub Stops : Program → (region : ℕ) → List Entry → WalkStop → Ty
 Stops p region h (stop.NotPermitted k) = IsRefused p region h k
 Stops p region h stop.TooLarge = IsTooLarge p region h
 Stops p region h stop.NoMemory = ⊤
+
+-- why a world is not shown
+abbrev pub StopsShow : Program → (region : ℕ) → List Entry → ShowStop → Type 0
+StopsShow p region h (show.NotPermitted k) = IsRefused p region h k
+StopsShow p region h show.NoMemory = ⊤
 
 -- the text of the world that the entries lead to
 pub record IsShown (p : Program) (region : ℕ) (h : List Entry) (text : List ℕ) : Type 0 where

@@ -4,6 +4,8 @@
 //! permitted, or a number on the way that a word has no room for.
 #![tactic(auto)]
 
+mod laws;
 mod walking;
 
-pub use walking::{WalkStop, shown, walk};
+pub use laws::runs_have_room;
+pub use walking::{ShowStop, WalkStop, shown, walk};

@@ -1,9 +1,12 @@
 //! A program that is walked along the entries of a schedule.
-ghost use Rattle.std.specs.Prelude.{◌≡◌, [], IfOk, IfErr};
+ghost use Rattle.std.specs.Prelude.{◌≡◌, ◌≤◌, [], length, IfOk, IfErr};
 ghost use Rattle.al_region.specs.Region.{IsRegionSize};
 ghost use Rattle.al_typed.specs.Layout.{IsLaidOut};
+ghost use Rattle.al_typed.specs.Measures.{IsWithin};
+ghost use Rattle.al_typed.specs.Sound.{HasSoundTypes, IsShort};
+ghost use Rattle.al_counts.specs.Counts.{most_entries};
 ghost use Rattle.al_step.specs.Sources.{Stands, IsSound};
-ghost use Rattle.al_show.specs.Walks.{GoesOn, StopsHere, GoesAlong, StopsAlong, Stops, IsShown};
+ghost use Rattle.al_show.specs.Walks.{GoesOn, StopsHere, GoesAlong, StopsAlong, Stops, StopsShow, IsShown};
 
 use al_base::NoMemory;
 use al_control::Unmade;
@@ -98,14 +101,41 @@ pub fn walk<'p>(
     walk_on(alloc, source, entries)
 }
 
-/// The text of the source world of a program after these entries.
-pub fn shown(alloc: Global, p: &Program, region: u32, entries: &[Entry]) -> Result<Bytes, WalkStop>
-    requires laid_out { IsLaidOut p.now.aggregates }
+/// Why the world of a program after all entries is not shown.
+#[derive(Clone, Copy, Debug, PartialEq, Eq)]
+pub enum ShowStop {
+    /// The first entry that is not permitted, counted from 0.
+    NotPermitted(u64),
+    NoMemory,
+}
+
+impl From<NoMemory> for ShowStop {
+    ghost use Rattle.std.specs.Prelude.{◌≡◌};
+    ghost use Rattle.al_show.specs.declared.walking.ShowStop.TheVariants as stops;
+
+    ghost from_gives = { λ _ stop. stop ≡ stops.NoMemory };
+
+    fn from(_: NoMemory) -> ShowStop {
+        ShowStop::NoMemory
+    }
+}
+
+/// The text of the source world of a program, whose types are sound and which is short and within the limits, after these entries.
+pub fn shown(alloc: Global, p: &Program, region: u32, entries: &[Entry]) -> Result<Bytes, ShowStop>
+    requires sound { HasSoundTypes p.now }
+    requires within { IsWithin p.now }
+    requires short { IsShort p.now }
     requires region { IsRegionSize region }
+    requires few { length entries.now ≤ most_entries }
     ensures shown { IfOk result (IsShown p.now region entries.now) }
-    ensures stop { IfErr result (Stops p.now region entries.now) }
+    ensures stop { IfErr result (StopsShow p.now region entries.now) }
 {
-    let source = walk(alloc, p, region, entries)?;
+    let source = match walk(alloc, p, region, entries) {
+        Ok(source) => source,
+        Err(WalkStop::NotPermitted(number)) => return Err(ShowStop::NotPermitted(number)),
+        Err(WalkStop::TooLarge) => unreachable!(),
+        Err(WalkStop::NoMemory) => return Err(ShowStop::NoMemory),
+    };
     let text = text(alloc, &source)?;
     Ok(text)
 }

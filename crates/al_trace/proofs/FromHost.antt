@@ -1,6 +1,6 @@
 -- What a reader has read of a host's text, call after call.
 use Rattle.std.proofs.Common.{◌≡◌, ℕ, ◌+◌, ◌-◌, ◌*◌, ◌<◌, ◌≤◌, true, false, Bool, List, [], ◌∷◌, ◌++◌, length, take, drop, All, Option, Result, Ok, Err, sym, ap, subst, ◌∙◌, append_assoc, length-append, arith}
-use Rattle.std.specs.Prelude.{IfErr}
+use Rattle.std.specs.Prelude.{IfErr, IfOk}
 use Rattle.std.specs.List.{flat_map}
 use Rattle.std.specs.Global.{Vec}
 use Rattle.std.proofs.lemmas.List.{append-nil, take-append-drop, length-take}
@@ -10,7 +10,7 @@ use Rattle.al_host.specs.Outside.{Content, WhereTold, Reads}
 use Rattle.al_trace.specs.declared.stop.TraceStop.{TraceStop}
 use Rattle.al_trace.specs.declared.stop.TraceStop.TheVariants.{ReadFault, BadLine, TooLong, NoMemory}
 use Rattle.al_trace.specs.declared.lines.Lines.{Lines}
-use Rattle.al_trace.specs.Schedule.{entry_line, IsEntry, most, Stops, StopsAt}
+use Rattle.al_trace.specs.Schedule.{entry_line, Gives, IsEntry, most, Stops, StopsAt}
 use Rattle.al_trace.specs.Lines.{IsPart, text_of, whole_lines}
 use Rattle.al_trace.specs.Reading.{StopsIn, FaultCounts}
 use Rattle.al_trace.proofs.BadLines.{body, body_line, body_short}
@@ -87,3 +87,9 @@ no_fault NoMemory text before after h e = e
 pub kept_count : (r : Result (Vec Entry) TraceStop) (k before after : ℕ) → IfErr r (λ stop. stop ≡ BadLine k) → after ≡ before → FaultCounts r before after
 kept_count (Ok v) k before after h e = e
 kept_count (Err stop) k before after h e = subst (λ (s : TraceStop). FaultCounts (let r : Result (Vec Entry) TraceStop = Err s in r) before after) (sym h) e
+
+-- ---- how many entries there are
+
+pub few_given : (r : Result (Vec Entry) TraceStop) (text : List ℕ) → Gives r text → IfOk r (λ v. length v.items ≤ most)
+few_given (Ok v) text g = g.few
+few_given (Err stop) text g = tt

@@ -31,7 +31,7 @@ use Rattle.alef_run.specs.StepMode.{EndsStep, bytes_of_region, first_of}
 use Rattle.alef_run.specs.declared.report.ScheduleFault.{ScheduleFault}
 use Rattle.alef_run.specs.Modes.{EndsIdle, EndsIn, EndsBy, is_built, built}
 use Rattle.alef_run.specs.declared.report.End.{End}
-use Rattle.alef_run.specs.declared.report.End.TheVariants.{Ran, Made, Words, ReadFault, Refused, BadImage, BadSchedule, BadEntry, BadNumber, WriteFault, NoMemory, TooLarge}
+use Rattle.alef_run.specs.declared.report.End.TheVariants.{Ran, Made, Words, ReadFault, Refused, BadImage, BadSchedule, BadEntry, BadNumber, WriteFault, NoMemory}
 use Rattle.alef_run.specs.declared.report.Refused.TheVariants.{Form as Other, Text}
 use Rattle.alef_run.proofs.Checks.{missing_check, host_check, out_check, complete_check, refused_check}
 use Rattle.alef_run.proofs.Steps.{missing_step, host_step, out_step, refused_step, missing_schedule_step, bad_schedule_step, bad_number_step, bad_entry_step, complete_step}
@@ -137,7 +137,6 @@ module _ (call : Call) where
   missing_run file (BadSchedule bad) e m = absurd e
   missing_run file (BadEntry number) e m = absurd e
   missing_run file (BadNumber count) e m = absurd e
-  missing_run file TooLarge e m = absurd e
   missing_run file (BadImage fault) e m = absurd e
 
   missing_exec : (job : Job) (end : End) → EndsExec job call end → LacksText call.told job.file → (end ≡ ReadFault) ⊎ (end ≡ NoMemory)
@@ -151,7 +150,6 @@ module _ (call : Call) where
   missing_exec job (BadSchedule bad) e m = absurd e
   missing_exec job (BadEntry number) e m = absurd e
   missing_exec job (BadNumber count) e m = absurd e
-  missing_exec job TooLarge e m = absurd e
   missing_exec job (Refused reason) e m = absurd e
 
   missing_in : (end : End) (mode : Mode) (job : Job) → is_built mode ≡ true → EndsIn mode job call end → LacksText call.told job.file → (end ≡ ReadFault) ⊎ (end ≡ NoMemory)
@@ -181,7 +179,6 @@ module _ (call : Call) where
   host_run file (BadSchedule bad) e rose = absurd e
   host_run file (BadEntry number) e rose = absurd e
   host_run file (BadNumber count) e rose = absurd e
-  host_run file TooLarge e rose = absurd e
   host_run file (BadImage fault) e rose = absurd e
 
   host_exec : (job : Job) (end : End) → EndsExec job call end → call.host_before < call.host_after → end ≡ ReadFault
@@ -195,7 +192,6 @@ module _ (call : Call) where
   host_exec job (BadSchedule bad) e rose = absurd e
   host_exec job (BadEntry number) e rose = absurd e
   host_exec job (BadNumber count) e rose = absurd e
-  host_exec job TooLarge e rose = absurd e
   host_exec job (Refused reason) e rose = absurd e
 
   pub host_end : (end : End) (o : Option Job) → EndsBy o call end → call.host_before < call.host_after → end ≡ ReadFault
@@ -215,7 +211,6 @@ module _ (call : Call) where
   out_run file (BadSchedule bad) e rose = absurd e
   out_run file (BadEntry number) e rose = absurd e
   out_run file (BadNumber count) e rose = absurd e
-  out_run file TooLarge e rose = absurd e
   out_run file (BadImage fault) e rose = absurd e
 
   out_exec : (job : Job) (end : End) → EndsExec job call end → call.out_before < call.out_after → end ≡ WriteFault
@@ -229,7 +224,6 @@ module _ (call : Call) where
   out_exec job (BadSchedule bad) e rose = absurd e
   out_exec job (BadEntry number) e rose = absurd e
   out_exec job (BadNumber count) e rose = absurd e
-  out_exec job TooLarge e rose = absurd e
   out_exec job (Refused reason) e rose = absurd e
 
   pub out_end : (end : End) (o : Option Job) → EndsBy o call end → call.out_before < call.out_after → end ≡ WriteFault
@@ -252,7 +246,6 @@ module _ (call : Call) where
     refused_run (BadSchedule bad) e none_has = absurd e
     refused_run (BadEntry number) e none_has = absurd e
     refused_run (BadNumber count) e none_has = absurd e
-    refused_run TooLarge e none_has = absurd e
     refused_run (BadImage fault) e none_has = absurd e
 
     complete_run : (form : Form) (end : End) → EndsRun file call end → IsForm text form → (Faulted call.host_before call.host_after → ⊥) → (Faulted call.out_before call.out_after → ⊥)
@@ -268,7 +261,6 @@ module _ (call : Call) where
     complete_run form (BadSchedule bad) e f calm calm' = absurd e
     complete_run form (BadEntry number) e f calm calm' = absurd e
     complete_run form (BadNumber count) e f calm calm' = absurd e
-    complete_run form TooLarge e f calm calm' = absurd e
     complete_run form (BadImage fault) e f calm calm' = absurd e
 
   module _ (job : Job) (text : List ℕ) (is : text_in call.told job.file ≡ Some text) where
@@ -286,7 +278,6 @@ module _ (call : Call) where
     refused_exec fault (BadSchedule bad) e r = absurd e
     refused_exec fault (BadEntry number) e r = absurd e
     refused_exec fault (BadNumber count) e r = absurd e
-    refused_exec fault TooLarge e r = absurd e
     refused_exec fault (Refused reason) e r = absurd e
 
     complete_exec : (image : Contents) (end : End) → EndsExec job call end → IsImage text image → (Faulted call.host_before call.host_after → ⊥) → (Faulted call.out_before call.out_after → ⊥)
@@ -301,7 +292,6 @@ module _ (call : Call) where
     complete_exec image (BadSchedule bad) e f calm calm' = absurd e
     complete_exec image (BadEntry number) e f calm calm' = absurd e
     complete_exec image (BadNumber count) e f calm calm' = absurd e
-    complete_exec image TooLarge e f calm calm' = absurd e
     complete_exec image (Refused reason) e f calm calm' = absurd e
 
   pub refused_end : (end : End) (o : Option Job) (job : Job) (text : List ℕ) → EndsBy o call end → built o ≡ Some job → job.mode ≡ Run → text_in call.told job.file ≡ Some text → HasNoForm text
@@ -411,13 +401,13 @@ module _ (call : Call) where
 
   pub bad_entry_end : (end : End) (o : Option Job) (job : Job) (text schedule : List ℕ) (p : Program) (h : List Entry) (k : ℕ) → EndsBy o call end → built o ≡ Some job → job.mode ≡ Step → text_in call.told job.file ≡ Some text
       → IsAccepted text p → IsWithin p → text_in call.told job.schedule ≡ Some schedule → IsSchedule schedule h → job.number ≤ length h → IsEntryRefused p (bytes_of_region job) (first_of job h) k
-      → (end ≡ BadEntry k) ⊎ ((end ≡ TooLarge) ⊎ ((end ≡ ReadFault) ⊎ (end ≡ NoMemory)))
+      → (end ≡ BadEntry k) ⊎ ((end ≡ ReadFault) ⊎ (end ≡ NoMemory))
   bad_entry_end end o job text schedule p h k e b mode is accepted within named entries enough refused =
       bad_entry_step job call text is p accepted within schedule named h entries enough k refused end (ends_step end o job e b mode)
 
   pub stepped_end : (end : End) (o : Option Job) (job : Job) (text schedule : List ℕ) (p : Program) (h : List Entry) → EndsBy o call end → built o ≡ Some job → job.mode ≡ Step → text_in call.told job.file ≡ Some text
       → IsAccepted text p → IsWithin p → text_in call.told job.schedule ≡ Some schedule → IsSchedule schedule h → job.number ≤ length h → IsSome (run p (bytes_of_region job) (first_of job h))
-      → (Faulted call.host_before call.host_after → ⊥) → (Faulted call.out_before call.out_after → ⊥) → (end ≡ Made) ⊎ ((end ≡ TooLarge) ⊎ (end ≡ NoMemory))
+      → (Faulted call.host_before call.host_after → ⊥) → (Faulted call.out_before call.out_after → ⊥) → (end ≡ Made) ⊎ (end ≡ NoMemory)
   stepped_end end o job text schedule p h e b mode is accepted within named entries enough runs calm calm' =
       complete_step job call text is p accepted within schedule named h entries enough runs calm calm' end (ends_step end o job e b mode)
 

@@ -15,7 +15,7 @@ use Rattle.alef_run.specs.Call.{Call, WasRead, DidNothing, LacksText, text_in}
 use Rattle.alef_run.specs.Load.{LacksBytes}
 use Rattle.alef_run.specs.CheckMode.{most_of_text, HasProgram, end_of, EndsText, EndsCheck}
 use Rattle.alef_run.specs.declared.report.End.{End}
-use Rattle.alef_run.specs.declared.report.End.TheVariants.{Ran, Made, Words, ReadFault, Refused, BadImage, BadSchedule, BadEntry, BadNumber, WriteFault, NoMemory, TooLarge}
+use Rattle.alef_run.specs.declared.report.End.TheVariants.{Ran, Made, Words, ReadFault, Refused, BadImage, BadSchedule, BadEntry, BadNumber, WriteFault, NoMemory}
 use Rattle.alef_run.specs.declared.report.Refused.TheVariants.{Form, Text}
 use Rattle.alef_run.proofs.Told.{neither, not_missing}
 
@@ -69,7 +69,6 @@ module _ (file : List ℕ) (call : Call) (nothing : DidNothing call) where
     so_ended (BadSchedule bad) is = absurd is
     so_ended (BadEntry number) is = absurd is
     so_ended (BadNumber count) is = absurd is
-    so_ended TooLarge is = absurd is
     so_ended ReadFault is = absurd is
     so_ended (BadImage fault) is = absurd is
     so_ended WriteFault is = absurd is
@@ -91,7 +90,6 @@ module _ (file : List ℕ) (call : Call) where
   missing_check (BadSchedule bad) e m = absurd e
   missing_check (BadEntry number) e m = absurd e
   missing_check (BadNumber count) e m = absurd e
-  missing_check TooLarge e m = absurd e
   missing_check (BadImage fault) e m = absurd e
   missing_check WriteFault e m = absurd e
 
@@ -106,7 +104,6 @@ module _ (file : List ℕ) (call : Call) where
   host_check (BadSchedule bad) e rose = absurd e
   host_check (BadEntry number) e rose = absurd e
   host_check (BadNumber count) e rose = absurd e
-  host_check TooLarge e rose = absurd e
   host_check (BadImage fault) e rose = absurd e
   host_check WriteFault e rose = absurd e
 
@@ -121,7 +118,6 @@ module _ (file : List ℕ) (call : Call) where
   out_check (BadSchedule bad) e rose = absurd e
   out_check (BadEntry number) e rose = absurd e
   out_check (BadNumber count) e rose = absurd e
-  out_check TooLarge e rose = absurd e
   out_check (BadImage fault) e rose = absurd e
   out_check WriteFault e rose = refl
 
@@ -137,7 +133,6 @@ module _ (file : List ℕ) (call : Call) where
     complete_check (BadSchedule bad) e has calm = absurd e
     complete_check (BadEntry number) e has calm = absurd e
     complete_check (BadNumber count) e has calm = absurd e
-    complete_check TooLarge e has calm = absurd e
     complete_check (BadImage fault) e has calm = absurd e
     complete_check WriteFault e has calm = absurd e
 
@@ -152,6 +147,5 @@ module _ (file : List ℕ) (call : Call) where
     refused_check (BadSchedule bad) e none_has = absurd e
     refused_check (BadEntry number) e none_has = absurd e
     refused_check (BadNumber count) e none_has = absurd e
-    refused_check TooLarge e none_has = absurd e
     refused_check (BadImage fault) e none_has = absurd e
     refused_check WriteFault e none_has = absurd e

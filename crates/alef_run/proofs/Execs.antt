@@ -12,7 +12,7 @@ use Rattle.alef_run.specs.Rounds.{history_along, IsLegal, RanTo}
 use Rattle.alef_run.specs.ExecMode.{DidExec, EndsExec}
 use Rattle.alef_run.specs.Modes.{line_by}
 use Rattle.alef_run.specs.declared.report.End.{End}
-use Rattle.alef_run.specs.declared.report.End.TheVariants.{Ran, Made, Words, ReadFault, Refused, BadImage, BadSchedule, BadEntry, BadNumber, WriteFault, NoMemory, TooLarge}
+use Rattle.alef_run.specs.declared.report.End.TheVariants.{Ran, Made, Words, ReadFault, Refused, BadImage, BadSchedule, BadEntry, BadNumber, WriteFault, NoMemory}
 use Rattle.alef_run.proofs.Between.{line_along, work_along}
 
 pub lacks_image : (job : Job) (call : Call) (end : End) → LacksImage job.file end call.told call.told_after call.host_before call.host_after → DidNothing call → EndsExec job call end
@@ -24,7 +24,6 @@ lacks_image job call Words l nothing = absurd l
 lacks_image job call (BadSchedule bad) l nothing = absurd l
 lacks_image job call (BadEntry number) l nothing = absurd l
 lacks_image job call (BadNumber count) l nothing = absurd l
-lacks_image job call TooLarge l nothing = absurd l
 lacks_image job call (Refused reason) l nothing = absurd l
 lacks_image job call WriteFault l nothing = absurd l
 lacks_image job call (Ran over) l nothing = absurd l
@@ -60,7 +59,6 @@ ends_exec job image call Words d = absurd d.ran
 ends_exec job image call (BadSchedule bad) d = absurd d.ran
 ends_exec job image call (BadEntry number) d = absurd d.ran
 ends_exec job image call (BadNumber count) d = absurd d.ran
-ends_exec job image call TooLarge d = absurd d.ran
 ends_exec job image call ReadFault d = absurd d.ran
 ends_exec job image call (Refused reason) d = absurd d.ran
 ends_exec job image call (BadImage fault) d = absurd d.ran

@@ -18,7 +18,7 @@ use Rattle.alef_run.specs.Build.{IsRunOf}
 use Rattle.alef_run.specs.Call.{Call, IsRead, WasRead, DidNothing, LacksText, LeavesRest, text_in}
 use Rattle.alef_run.specs.RunMode.{EndsRun, DidRun, HasNoForm, most_of_form, first_entry}
 use Rattle.alef_run.specs.declared.report.End.{End}
-use Rattle.alef_run.specs.declared.report.End.TheVariants.{Ran, Made, Words, ReadFault, Refused, BadImage, BadSchedule, BadEntry, BadNumber, WriteFault, NoMemory, TooLarge}
+use Rattle.alef_run.specs.declared.report.End.TheVariants.{Ran, Made, Words, ReadFault, Refused, BadImage, BadSchedule, BadEntry, BadNumber, WriteFault, NoMemory}
 use Rattle.alef_run.specs.declared.report.Refused.TheVariants.{Form as Another}
 use Rattle.alef_run.proofs.Whole.{form_of_whole, no_form_of_whole}
 
@@ -68,7 +68,6 @@ finished file call form output Words e ran w = absurd w
 finished file call form output (BadSchedule bad) e ran w = absurd w
 finished file call form output (BadEntry number) e ran w = absurd w
 finished file call form output (BadNumber count) e ran w = absurd w
-finished file call form output TooLarge e ran w = absurd w
 finished file call form output ReadFault e ran w = absurd w
 finished file call form output (Refused reason) e ran w = absurd w
 finished file call form output (BadImage fault) e ran w = absurd w

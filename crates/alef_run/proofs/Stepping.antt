@@ -12,15 +12,16 @@ use Rattle.al_front.specs.Accepted.{IsAccepted, IsRefused as IsTextRefused}
 use Rattle.al_front.specs.declared.refused.Refused.{Refused as Reason}
 use Rattle.al_front.specs.declared.refused.FrontStop.{FrontStop}
 use Rattle.al_front.specs.declared.refused.FrontStop.TheVariants as stop
-use Rattle.al_show.specs.declared.walking.WalkStop.{WalkStop}
-use Rattle.al_show.specs.declared.walking.WalkStop.TheVariants as walk
-use Rattle.al_show.specs.Walks.{Stops}
+use Rattle.al_show.specs.declared.walking.ShowStop.{ShowStop}
+use Rattle.al_show.specs.declared.walking.ShowStop.TheVariants as show
+use Rattle.al_show.specs.Walks.{StopsShow}
 use Rattle.alef_run.specs.Call.{Call, IsRead, DidNothing, HostFails, LacksText, text_in}
 use Rattle.alef_run.specs.CheckMode.{most_of_text}
 use Rattle.alef_run.specs.Load.{KeepsTexts, LacksBytes, IsScheduleRead, LacksSchedule}
-use Rattle.alef_run.specs.StepMode.{EndsStep, EndsShow, HasText, HasBoth, HasNoSchedule, MadeNothing, IsProgramRead, IsFound, bytes_of_region, first_of, made_of, end_of_walk}
+use Rattle.alef_run.specs.StepMode.{EndsStep, EndsShow, HasText, HasBoth, HasNoSchedule, MadeNothing, IsProgramRead, IsFound, MayBeShown, bytes_of_region, first_of, made_of, end_of_show}
 use Rattle.alef_run.specs.declared.report.End.{End}
-use Rattle.alef_run.specs.declared.report.End.TheVariants.{Ran, Made, Words, ReadFault, Refused, BadImage, BadSchedule, BadEntry, BadNumber, WriteFault, NoMemory, TooLarge}
+use Rattle.alef_run.specs.declared.report.End.TheVariants.{Ran, Made, Words, ReadFault, Refused, BadImage, BadSchedule, BadEntry, BadNumber, WriteFault, NoMemory}
+use Rattle.al_sound_texts.proofs.Texts.{accepted_is_sound}
 use Rattle.alef_run.proofs.Checks.{accepted_whole, refused_whole}
 
 -- ---- texts that stay
@@ -59,16 +60,22 @@ module _ (file : List ℕ) (told told_after : Option Content) (faults faults_aft
   text_found (Err (stop.Refused r)) same laid is refused = (read, λ text named. refused_whole text front (f text named) r (refused r refl))
   text_found (Err stop.NoMemory) same laid is refused = read.calm
 
--- ---- a walk
+-- ---- what may be shown
 
--- nothing is written where a walk stopped
-pub walk_stopped : (p : Program) (region : ℕ) (h : List Entry) (why : WalkStop) (end : End) (got : Option (List ℕ)) (faults : ℕ) → Stops p region h why → end ≡ end_of_walk why → EndsShow p region h end got got faults faults
-walk_stopped p region h why end got faults stops e = let E : End → Type 0 = λ end. EndsShow p region h end got got faults faults in subst E (sym e) (on why stops)
+-- that of each text that is accepted within the limits may be shown
+pub found_fits : (text : List ℕ) (found : Result Program FrontStop) → IfOk found (λ p. IsAccepted text p × IsWithin p) → IfOk found MayBeShown
+found_fits text (Ok p) h = let laws = accepted_is_sound text p h.0 in record { sound = laws.0; within = h.1; short = laws.1 }
+found_fits text (Err stop) h = h
+
+-- ---- what is shown
+
+-- nothing is written where no world is shown
+pub show_stopped : (p : Program) (region : ℕ) (h : List Entry) (why : ShowStop) (end : End) (got : Option (List ℕ)) (faults : ℕ) → StopsShow p region h why → end ≡ end_of_show why → EndsShow p region h end got got faults faults
+show_stopped p region h why end got faults stops e = let E : End → Type 0 = λ end. EndsShow p region h end got got faults faults in subst E (sym e) (on why stops)
   where
-    on : (why : WalkStop) → Stops p region h why → EndsShow p region h (end_of_walk why) got got faults faults
-    on (walk.NotPermitted k) s = (s, refl, refl)
-    on walk.TooLarge s = (s, refl, refl)
-    on walk.NoMemory s = (refl, refl)
+    on : (why : ShowStop) → StopsShow p region h why → EndsShow p region h (end_of_show why) got got faults faults
+    on (show.NotPermitted k) s = (s, refl, refl)
+    on show.NoMemory s = (refl, refl)
 
 -- ---- the whole
 
@@ -113,7 +120,6 @@ module _ (job : Job) (call : Call) where
         on Words l = absurd l
         on (Refused reason) l = absurd l
         on WriteFault l = absurd l
-        on TooLarge l = absurd l
         on (Ran over) l = absurd l
 
     module _ (h : List Entry) (entries : IsScheduleRead schedule h middle call.told_after faults call.host_after) where
@@ -138,8 +144,6 @@ module _ (job : Job) (call : Call) where
             (p, h, text, record { read = (both, enough); shown = shown; schedule = e ∙ take_all (length list) list (omega arith) ∙ list_is; rest = nothing }, w, fault)
         shows (BadEntry k) e (refused, got, calm) =
             (p, h, record { read = (both, enough); refused = refused; schedule = e ∙ ap (take k) list_is; rest = nothing; wrote = record { got = got; calm = calm } })
-        shows TooLarge e (large, got, calm) =
-            (p, h, (both, enough), large, record { schedule = e; work = nothing.work; code = nothing.code; image = nothing.image; got = got; calm = calm })
         shows NoMemory e (got, calm) =
             (both.calm, record { schedule = e; work = nothing.work; code = nothing.code; image = nothing.image; got = got; calm = calm })
         shows (Refused reason) e s = absurd s

@@ -22,7 +22,7 @@ use Rattle.alef_run.specs.CheckMode.{HasProgram}
 use Rattle.alef_run.specs.Load.{IsBadSchedule}
 use Rattle.alef_run.specs.StepMode.{EndsStep, HasText, HasBoth, bytes_of_region, first_of}
 use Rattle.alef_run.specs.declared.report.End.{End}
-use Rattle.alef_run.specs.declared.report.End.TheVariants.{Ran, Made, Words, ReadFault, Refused, BadImage, BadSchedule, BadEntry, BadNumber, WriteFault, NoMemory, TooLarge}
+use Rattle.alef_run.specs.declared.report.End.TheVariants.{Ran, Made, Words, ReadFault, Refused, BadImage, BadSchedule, BadEntry, BadNumber, WriteFault, NoMemory}
 use Rattle.alef_run.specs.declared.report.Refused.TheVariants.{Form, Text}
 use Rattle.alef_run.specs.declared.report.ScheduleFault.{ScheduleFault}
 use Rattle.alef_run.specs.declared.report.ScheduleFault.TheVariants as bad
@@ -54,7 +54,6 @@ module _ (job : Job) (call : Call) where
   missing_step WriteFault e m = absurd (e.3.read.0.program.found m)
   missing_step (BadEntry k) e m = absurd (e.2.read.0.program.found m)
   missing_step (BadNumber n) e m = absurd (e.2.program.found m)
-  missing_step TooLarge e m = absurd (e.2.0.program.found m)
   missing_step (BadSchedule f) e m = absurd (e.0.text.found m)
   missing_step (Refused (Text r)) e m = absurd (e.0.found m)
   missing_step ReadFault e m = inl refl
@@ -69,7 +68,6 @@ module _ (job : Job) (call : Call) where
   host_step WriteFault e rose = let calm = e.3.read.0.calm in absurd (omega (arith, calm, rose))
   host_step (BadEntry k) e rose = let calm = e.2.read.0.calm in absurd (omega (arith, calm, rose))
   host_step (BadNumber n) e rose = let calm = e.2.calm in absurd (omega (arith, calm, rose))
-  host_step TooLarge e rose = let calm = e.2.0.calm in absurd (omega (arith, calm, rose))
   host_step (BadSchedule f) e rose = let calm = e.2 in absurd (omega (arith, calm, rose))
   host_step (Refused (Text r)) e rose = let calm = e.0.calm in absurd (omega (arith, calm, rose))
   host_step ReadFault e rose = refl
@@ -84,7 +82,6 @@ module _ (job : Job) (call : Call) where
   out_step WriteFault e rose = refl
   out_step (BadEntry k) e rose = let calm = e.2.wrote.calm in absurd (omega (arith, calm, rose))
   out_step (BadNumber n) e rose = let calm = e.5.calm in absurd (omega (arith, calm, rose))
-  out_step TooLarge e rose = let calm = e.4.calm in absurd (omega (arith, calm, rose))
   out_step (BadSchedule f) e rose = let calm = e.3.calm in absurd (omega (arith, calm, rose))
   out_step (Refused (Text r)) e rose = let calm = e.2.calm in absurd (omega (arith, calm, rose))
   out_step ReadFault e rose = let calm = e.1.calm in absurd (omega (arith, calm, rose))
@@ -105,7 +102,6 @@ module _ (job : Job) (call : Call) where
     refused_step none WriteFault e = absurd (none (has_program e.0 e.3.read.0.program))
     refused_step none (BadEntry k) e = absurd (none (has_program e.0 e.2.read.0.program))
     refused_step none (BadNumber n) e = absurd (none (has_program e.0 e.2.program))
-    refused_step none TooLarge e = absurd (none (has_program e.0 e.2.0.program))
     refused_step none (BadSchedule f) e = absurd (none (has_program e.0.program e.0.text))
     refused_step none (Refused (Text r)) e = inl (r, refl, e.1 text is)
     refused_step none ReadFault e = inr (inl refl)
@@ -122,7 +118,6 @@ module _ (job : Job) (call : Call) where
     missing_schedule_step has m WriteFault e = absurd (e.3.read.0.found m)
     missing_schedule_step has m (BadEntry k) e = absurd (e.2.read.0.found m)
     missing_schedule_step has m (BadNumber n) e = absurd (e.2.found m)
-    missing_schedule_step has m TooLarge e = absurd (e.2.0.found m)
     missing_schedule_step has m (BadSchedule f) e = absurd (e.0.found m)
     missing_schedule_step has m (Refused (Text r)) e = absurd (never_both text has.0 r has.1 has.2 (e.1 text is))
     missing_schedule_step has m ReadFault e = inl refl
@@ -150,7 +145,6 @@ module _ (job : Job) (call : Call) where
         bad_schedule_step WriteFault e = absurd (none_has e.0 e.1 e.3.read.0)
         bad_schedule_step (BadEntry k) e = absurd (none_has e.0 e.1 e.2.read.0)
         bad_schedule_step (BadNumber n) e = absurd (none_has e.0 e.1 e.2)
-        bad_schedule_step TooLarge e = absurd (none_has e.0 e.1 e.2.0)
         bad_schedule_step (BadSchedule f) e = inl (ap BadSchedule (one_fault schedule f fault (e.1 schedule named) wrong))
         bad_schedule_step (Refused (Text r)) e = absurd (not_refused r e.1)
         bad_schedule_step ReadFault e = inr (inl refl)
@@ -177,7 +171,6 @@ module _ (job : Job) (call : Call) where
         bad_number_step few WriteFault e = absurd (few_has few e.0 e.1 e.3.read.0 e.3.read.1)
         bad_number_step few (BadEntry k) e = absurd (few_has few e.0 e.1 e.2.read.0 e.2.read.1)
         bad_number_step few (BadNumber n) e = inl (ap BadNumber (e.3 ∙ sym (ap length (same_entries e.0 e.1 e.2))))
-        bad_number_step few TooLarge e = absurd (few_has few e.0 e.1 e.2.0 e.2.1)
         bad_number_step few (BadSchedule f) e = absurd (not_bad f e.1)
         bad_number_step few (Refused (Text r)) e = absurd (not_refused r e.1)
         bad_number_step few ReadFault e = inr (inl refl)
@@ -205,18 +198,17 @@ module _ (job : Job) (call : Call) where
                 let runs = run_is q l b (λ (q : Program) (l : List Entry). IsSome (run q (bytes_of_region job) l)) some in
                 cc
 
-            pub bad_entry_step : (end : End) → EndsStep job call end → (end ≡ BadEntry k) ⊎ ((end ≡ TooLarge) ⊎ ((end ≡ ReadFault) ⊎ (end ≡ NoMemory)))
+            pub bad_entry_step : (end : End) → EndsStep job call end → (end ≡ BadEntry k) ⊎ ((end ≡ ReadFault) ⊎ (end ≡ NoMemory))
             bad_entry_step Made e = absurd (no_run e.0 e.1 e.3.read.0 (let ran = e.3.shown.ran in cc))
             bad_entry_step WriteFault e = absurd (no_run e.0 e.1 e.3.read.0 (let ran = e.3.shown.ran in cc))
             bad_entry_step (BadEntry j) e =
                 inl (ap BadEntry (one_refused p (bytes_of_region job) (first_of job h) j k
                 (run_is e.0 e.1 e.2.read.0 (λ (q : Program) (l : List Entry). IsRefused q (bytes_of_region job) l j) e.2.refused) refused))
             bad_entry_step (BadNumber n) e = absurd (not_few e.0 e.1 n e.2 e.3 e.4)
-            bad_entry_step TooLarge e = inr (inl refl)
             bad_entry_step (BadSchedule f) e = absurd (not_bad f e.1)
             bad_entry_step (Refused (Text r)) e = absurd (not_refused r e.1)
-            bad_entry_step ReadFault e = inr (inr (inl refl))
-            bad_entry_step NoMemory e = inr (inr (inr refl))
+            bad_entry_step ReadFault e = inr (inl refl)
+            bad_entry_step NoMemory e = inr (inr refl)
             bad_entry_step (Refused Form) e = absurd e
             bad_entry_step (Ran over) e = absurd e
             bad_entry_step Words e = absurd e
@@ -225,18 +217,17 @@ module _ (job : Job) (call : Call) where
           -- ---- entries that are permitted
 
           module _ (runs : IsSome (run p (bytes_of_region job) (first_of job h))) (calm : Faulted call.host_before call.host_after → ⊥) (calm' : Faulted call.out_before call.out_after → ⊥) where
-            pub complete_step : (end : End) → EndsStep job call end → (end ≡ Made) ⊎ ((end ≡ TooLarge) ⊎ (end ≡ NoMemory))
+            pub complete_step : (end : End) → EndsStep job call end → (end ≡ Made) ⊎ (end ≡ NoMemory)
             complete_step Made e = inl refl
             complete_step WriteFault e = absurd (calm' e.5)
             complete_step (BadEntry j) e =
                 absurd (let none = refused_none p (bytes_of_region job) (first_of job h) j (run_is e.0 e.1 e.2.read.0 (λ (q : Program) (l : List Entry). IsRefused q (bytes_of_region job) l j) e.2.refused) in cc)
             complete_step (BadNumber n) e = absurd (not_few e.0 e.1 n e.2 e.3 e.4)
-            complete_step TooLarge e = inr (inl refl)
             complete_step (BadSchedule f) e = absurd (not_bad f e.1)
             complete_step (Refused (Text r)) e = absurd (not_refused r e.1)
             complete_step ReadFault e =
                 absurd (neither e.0 (λ f. neither f calm (λ m. not_missing call.told text job.file is m)) (λ m. not_missing call.told schedule job.schedule named m.lacks))
-            complete_step NoMemory e = inr (inr refl)
+            complete_step NoMemory e = inr refl
             complete_step (Refused Form) e = absurd e
             complete_step (Ran over) e = absurd e
             complete_step Words e = absurd e

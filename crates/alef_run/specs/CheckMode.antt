@@ -7,7 +7,7 @@ use Rattle.al_front.specs.declared.refused.FrontStop.{FrontStop}
 use Rattle.al_front.specs.declared.refused.FrontStop.TheVariants as stop
 use Rattle.alef_run.specs.Call.{Call, WasRead, DidNothing, HostFails, text_in}
 use Rattle.alef_run.specs.declared.report.End.{End}
-use Rattle.alef_run.specs.declared.report.End.TheVariants.{Ran, Made, Words, ReadFault, Refused, BadImage, BadSchedule, BadEntry, BadNumber, WriteFault, NoMemory, TooLarge}
+use Rattle.alef_run.specs.declared.report.End.TheVariants.{Ran, Made, Words, ReadFault, Refused, BadImage, BadSchedule, BadEntry, BadNumber, WriteFault, NoMemory}
 use Rattle.alef_run.specs.declared.report.Refused.TheVariants as because
 
 -- a text is read to its end, or to one byte past what a text has at most
@@ -35,7 +35,6 @@ EndsText text Words = ⊥
 EndsText text (BadSchedule bad) = ⊥
 EndsText text (BadEntry number) = ⊥
 EndsText text (BadNumber count) = ⊥
-EndsText text TooLarge = ⊥
 EndsText text ReadFault = ⊥
 EndsText text (BadImage fault) = ⊥
 EndsText text WriteFault = ⊥
@@ -54,6 +53,5 @@ EndsCheck file call Words = ⊥
 EndsCheck file call (BadSchedule bad) = ⊥
 EndsCheck file call (BadEntry number) = ⊥
 EndsCheck file call (BadNumber count) = ⊥
-EndsCheck file call TooLarge = ⊥
 EndsCheck file call (BadImage fault) = ⊥
 EndsCheck file call WriteFault = ⊥

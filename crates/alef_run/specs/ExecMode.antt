@@ -9,7 +9,7 @@ use Rattle.al_core.specs.History.{History, work_of}
 use Rattle.alef_run.specs.Call.{Call, WasRead, DidNothing, HostFails, text_in}
 use Rattle.alef_run.specs.Rounds.{history_along, IsLegal, RanTo}
 use Rattle.alef_run.specs.declared.report.End.{End}
-use Rattle.alef_run.specs.declared.report.End.TheVariants.{Ran, Made, Words, ReadFault, Refused, BadImage, BadSchedule, BadEntry, BadNumber, WriteFault, NoMemory, TooLarge}
+use Rattle.alef_run.specs.declared.report.End.TheVariants.{Ran, Made, Words, ReadFault, Refused, BadImage, BadSchedule, BadEntry, BadNumber, WriteFault, NoMemory}
 
 -- what an image comes to along the schedule of a call
 abbrev pub comes_to : Contents → Job → Call → History
@@ -42,5 +42,4 @@ EndsExec job call Words = ⊥
 EndsExec job call (BadSchedule bad) = ⊥
 EndsExec job call (BadEntry number) = ⊥
 EndsExec job call (BadNumber count) = ⊥
-EndsExec job call TooLarge = ⊥
 EndsExec job call (Refused reason) = ⊥

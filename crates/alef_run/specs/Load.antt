@@ -9,7 +9,7 @@ use Rattle.alef_run.specs.Call.{IsRead, HostFails, LacksText, LeavesRest, text_i
 use Rattle.alef_run.specs.declared.report.ScheduleFault.{ScheduleFault}
 use Rattle.alef_run.specs.declared.report.ScheduleFault.TheVariants as bad
 use Rattle.alef_run.specs.declared.report.End.{End}
-use Rattle.alef_run.specs.declared.report.End.TheVariants.{Ran, Made, Words, ReadFault, Refused, BadImage, BadSchedule, BadEntry, BadNumber, WriteFault, NoMemory, TooLarge}
+use Rattle.alef_run.specs.declared.report.End.TheVariants.{Ran, Made, Words, ReadFault, Refused, BadImage, BadSchedule, BadEntry, BadNumber, WriteFault, NoMemory}
 
 -- more bytes were read behind those that there were: until there were so many, or to the end of what was left
 pub record ReadsOn (most : ℕ) (old new : List ℕ) (before after : Content) : Type 0 where
@@ -35,7 +35,6 @@ LacksImage file Words told told_after faults faults_after = ⊥
 LacksImage file (BadSchedule bad) told told_after faults faults_after = ⊥
 LacksImage file (BadEntry number) told told_after faults faults_after = ⊥
 LacksImage file (BadNumber count) told told_after faults faults_after = ⊥
-LacksImage file TooLarge told told_after faults faults_after = ⊥
 LacksImage file (Refused reason) told told_after faults faults_after = ⊥
 LacksImage file WriteFault told told_after faults faults_after = ⊥
 LacksImage file (Ran over) told told_after faults faults_after = ⊥
@@ -77,7 +76,6 @@ LacksSchedule file Made told faults faults_after = ⊥
 LacksSchedule file Words told faults faults_after = ⊥
 LacksSchedule file (Refused reason) told faults faults_after = ⊥
 LacksSchedule file WriteFault told faults faults_after = ⊥
-LacksSchedule file TooLarge told faults faults_after = ⊥
 LacksSchedule file (Ran over) told faults faults_after = ⊥
 
 -- ---- a text

@@ -8,7 +8,7 @@ use Rattle.rv_isa.specs.declared.image.Contents.{Contents}
 use Rattle.al_core.specs.History.{History, opening, run_of, over_of, output_of}
 use Rattle.alef_run.specs.Outside.{GetsAll}
 use Rattle.alef_run.specs.declared.report.End.{End}
-use Rattle.alef_run.specs.declared.report.End.TheVariants.{Ran, Made, Words, ReadFault, Refused, BadImage, BadSchedule, BadEntry, BadNumber, WriteFault, NoMemory, TooLarge}
+use Rattle.alef_run.specs.declared.report.End.TheVariants.{Ran, Made, Words, ReadFault, Refused, BadImage, BadSchedule, BadEntry, BadNumber, WriteFault, NoMemory}
 
 -- an image along a schedule, under these limits
 abbrev pub history_along : Contents → (region limit : ℕ) → List Entry → History
@@ -64,7 +64,6 @@ RanTo h Words before after faults faults' = ⊥
 RanTo h (BadSchedule bad) before after faults faults' = ⊥
 RanTo h (BadEntry number) before after faults faults' = ⊥
 RanTo h (BadNumber count) before after faults faults' = ⊥
-RanTo h TooLarge before after faults faults' = ⊥
 RanTo h ReadFault before after faults faults' = ⊥
 RanTo h (Refused reason) before after faults faults' = ⊥
 RanTo h (BadImage fault) before after faults faults' = ⊥

@@ -13,7 +13,7 @@ use Rattle.alef_run.specs.Call.{Call, WasRead, IsUnread, DidNothing, HostFails, 
 use Rattle.alef_run.specs.Outside.{GetsAll, GetsPart}
 use Rattle.alef_run.specs.declared.report.End.{End}
 use Rattle.alef_run.specs.declared.report.Refused.TheVariants as because
-use Rattle.alef_run.specs.declared.report.End.TheVariants.{Ran, Made, Words, ReadFault, Refused, BadImage, BadSchedule, BadEntry, BadNumber, WriteFault, NoMemory, TooLarge}
+use Rattle.alef_run.specs.declared.report.End.TheVariants.{Ran, Made, Words, ReadFault, Refused, BadImage, BadSchedule, BadEntry, BadNumber, WriteFault, NoMemory}
 
 -- no text of that name has a form
 abbrev pub HasNoForm : List ℕ → Type 0
@@ -56,5 +56,4 @@ EndsRun file call Words = ⊥
 EndsRun file call (BadSchedule bad) = ⊥
 EndsRun file call (BadEntry number) = ⊥
 EndsRun file call (BadNumber count) = ⊥
-EndsRun file call TooLarge = ⊥
 EndsRun file call (BadImage fault) = ⊥

@@ -9,7 +9,7 @@ use Rattle.alef_run.specs.Line.{naming}
 use Rattle.alef_run.specs.TextLine.{text_line}
 use Rattle.alef_run.specs.ScheduleLine.{schedule_line, entry_line, number_line}
 use Rattle.alef_run.specs.declared.report.End.{End}
-use Rattle.alef_run.specs.declared.report.End.TheVariants.{Ran, Made, Words, ReadFault, Refused, BadImage, BadSchedule, BadEntry, BadNumber, WriteFault, NoMemory, TooLarge}
+use Rattle.alef_run.specs.declared.report.End.TheVariants.{Ran, Made, Words, ReadFault, Refused, BadImage, BadSchedule, BadEntry, BadNumber, WriteFault, NoMemory}
 use Rattle.alef_run.specs.declared.report.Refused.TheVariants.{Form, Text}
 
 -- the status of a program that stopped itself: 0 stays, all others show the lowest seven bits
@@ -35,7 +35,6 @@ status_of (BadEntry number) = 9
 status_of (BadNumber count) = 9
 status_of WriteFault = 4
 status_of NoMemory = 8
-status_of TooLarge = 8
 
 abbrev pub image_line : ImageFault → List ℕ
 image_line Short = codes "alef: image Short\n"
@@ -60,4 +59,3 @@ line_of_end line (BadEntry number) = entry_line number
 line_of_end line (BadNumber count) = number_line count
 line_of_end line WriteFault = codes "alef: cannot write\n"
 line_of_end line NoMemory = codes "alef: out of memory\n"
-line_of_end line TooLarge = codes "alef: a number is too large\n"

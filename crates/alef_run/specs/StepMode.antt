@@ -6,18 +6,19 @@ use Rattle.al_words.specs.declared.job.Job.{Job}
 use Rattle.al_typed.specs.declared.program.Program.{Program}
 use Rattle.al_typed.specs.Layout.{IsLaidOut}
 use Rattle.al_typed.specs.Measures.{IsWithin}
+use Rattle.al_typed.specs.Sound.{HasSoundTypes, IsShort}
 use Rattle.al_front.specs.Accepted.{IsAccepted, IsRefused as IsTextRefused}
 use Rattle.al_front.specs.declared.refused.FrontStop.{FrontStop}
 use Rattle.al_front.specs.declared.refused.FrontStop.TheVariants as front
-use Rattle.al_show.specs.declared.walking.WalkStop.{WalkStop}
-use Rattle.al_show.specs.declared.walking.WalkStop.TheVariants as walk
-use Rattle.al_show.specs.Walks.{IsRefused, IsTooLarge, IsShown}
+use Rattle.al_show.specs.declared.walking.ShowStop.{ShowStop}
+use Rattle.al_show.specs.declared.walking.ShowStop.TheVariants as show
+use Rattle.al_show.specs.Walks.{IsRefused, IsShown}
 use Rattle.alef_run.specs.Call.{Call, IsRead, WasRead, DidNothing, HostFails, LacksText, LeavesRest, text_in}
 use Rattle.alef_run.specs.CheckMode.{most_of_text}
 use Rattle.alef_run.specs.Load.{KeepsTexts, IsBadSchedule, IsItsSchedule}
 use Rattle.alef_run.specs.Outside.{GetsAll, GetsPart}
 use Rattle.alef_run.specs.declared.report.End.{End}
-use Rattle.alef_run.specs.declared.report.End.TheVariants.{Ran, Made, Words, ReadFault, Refused, BadImage, BadSchedule, BadEntry, BadNumber, WriteFault, NoMemory, TooLarge}
+use Rattle.alef_run.specs.declared.report.End.TheVariants.{Ran, Made, Words, ReadFault, Refused, BadImage, BadSchedule, BadEntry, BadNumber, WriteFault, NoMemory}
 use Rattle.alef_run.specs.declared.report.Refused.TheVariants as because
 
 -- the bytes of the shared region of a job
@@ -102,8 +103,6 @@ EndsStep job call WriteFault =
 EndsStep job call (BadEntry k) = (p : Program) × (h : List Entry) × DidStepTo job p h k call
 EndsStep job call (BadNumber n) =
     (p : Program) × (h : List Entry) × HasBoth job p h call × (n ≡ length h) × (n < job.number) × DidNothing call
-EndsStep job call TooLarge =
-    (p : Program) × (h : List Entry) × HasEnough job p h call × IsTooLarge p (bytes_of_region job) (first_of job h) × DidNothing call
 EndsStep job call (BadSchedule fault) =
     HasBadSchedule job call × ((text : List ℕ) → text_in call.told job.schedule ≡ Some text → IsBadSchedule fault text)
     × (call.host_after ≡ call.host_before) × DidNothing call
@@ -119,6 +118,12 @@ EndsStep job call (BadImage fault) = ⊥
 
 -- ---- stages
 
+-- a program each run of which has numbers that have room in words
+pub record MayBeShown (p : Program) : Type 0 where
+  pub sound : HasSoundTypes p
+  pub within : IsWithin p
+  pub short : IsShort p
+
 -- the text of that name was read, and is accepted, within the limits
 pub record IsProgramRead (file : List ℕ) (p : Program) (told told_after : Option Content) (faults faults_after : ℕ) : Type 0 where
   pub text : HasText file p told
@@ -133,11 +138,10 @@ IsFound file (Err (front.Refused reason)) told told_after faults faults_after =
     IsRead file most_of_text told told_after faults faults_after × ((text : List ℕ) → text_in told file ≡ Some text → IsTextRefused text reason)
 IsFound file (Err front.NoMemory) told told_after faults faults_after = faults_after ≡ faults
 
--- how a call ends whose walk stopped
-abbrev pub end_of_walk : WalkStop → End
-end_of_walk (walk.NotPermitted k) = BadEntry k
-end_of_walk walk.TooLarge = TooLarge
-end_of_walk walk.NoMemory = NoMemory
+-- how a call ends that shows no world
+abbrev pub end_of_show : ShowStop → End
+end_of_show (show.NotPermitted k) = BadEntry k
+end_of_show show.NoMemory = NoMemory
 
 -- how many of the entries to step along were made
 abbrev pub made_of : End → (count : ℕ) → ℕ
@@ -153,7 +157,6 @@ EndsShow p region h Made before after faults faults' =
 EndsShow p region h WriteFault before after faults faults' =
     (text : List ℕ) × IsShown p region h text × WhereTold (GetsPart text) before after × Faulted faults faults'
 EndsShow p region h (BadEntry k) before after faults faults' = IsRefused p region h k × (after ≡ before) × (faults' ≡ faults)
-EndsShow p region h TooLarge before after faults faults' = IsTooLarge p region h × (after ≡ before) × (faults' ≡ faults)
 EndsShow p region h NoMemory before after faults faults' = (after ≡ before) × (faults' ≡ faults)
 EndsShow p region h (Refused reason) before after faults faults' = ⊥
 EndsShow p region h (Ran over) before after faults faults' = ⊥

@@ -4,7 +4,7 @@ use Rattle.al_base.specs.declared.over.Over.TheVariants.{Done}
 use Rattle.al_host.specs.Outside.{Faulted, WhereTold}
 use Rattle.alef_run.specs.Outside.{GetsAll, GetsPart}
 use Rattle.alef_run.specs.declared.report.End.{End}
-use Rattle.alef_run.specs.declared.report.End.TheVariants.{Ran, Made, Words, ReadFault, Refused, BadImage, BadSchedule, BadEntry, BadNumber, WriteFault, NoMemory, TooLarge}
+use Rattle.alef_run.specs.declared.report.End.TheVariants.{Ran, Made, Words, ReadFault, Refused, BadImage, BadSchedule, BadEntry, BadNumber, WriteFault, NoMemory}
 
 -- all of the output went out, or a first part of it and there was a fault
 abbrev pub MatchesWrite : List ℕ → End → Option (List ℕ) → Option (List ℕ) → ℕ → ℕ → Type 0
@@ -15,7 +15,6 @@ MatchesWrite output Words before after faults faults' = ⊥
 MatchesWrite output (BadSchedule bad) before after faults faults' = ⊥
 MatchesWrite output (BadEntry number) before after faults faults' = ⊥
 MatchesWrite output (BadNumber count) before after faults faults' = ⊥
-MatchesWrite output TooLarge before after faults faults' = ⊥
 MatchesWrite output ReadFault before after faults faults' = ⊥
 MatchesWrite output (Refused reason) before after faults faults' = ⊥
 MatchesWrite output (BadImage fault) before after faults faults' = ⊥

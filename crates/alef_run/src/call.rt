@@ -133,7 +133,7 @@ pub fn alef<R: Threads + Wait + Sync, H: Host, K: Sink, L: Sink>(
         → text_in (H.content host.old) job.file ≡ Some text → IsAccepted text p → IsWithin p
         → text_in (H.content host.old) job.schedule ≡ Some schedule → IsSchedule schedule h → job.number ≤ length h
         → IsEntryRefused p (bytes_of_region job) (first_of job h) k
-        → (result.end ≡ End.BadEntry k) ⊎ ((result.end ≡ End.TooLarge) ⊎ ((result.end ≡ End.ReadFault) ⊎ (result.end ≡ End.NoMemory))) }
+        → (result.end ≡ End.BadEntry k) ⊎ ((result.end ≡ End.ReadFault) ⊎ (result.end ≡ End.NoMemory)) }
 
     // A text of the first form and an image run to their end, and a text that is accepted within the limits is found to be so,
     // unless the world outside has a fault or memory runs out.
@@ -149,13 +149,13 @@ pub fn alef<R: Threads + Wait + Sync, H: Host, K: Sink, L: Sink>(
         → text_in (H.content host.old) job.file ≡ Some text → HasProgram text → ¬ (Faulted (H.faults host.old) (H.faults host.new))
         → (result.end ≡ End.Made) ⊎ (result.end ≡ End.NoMemory) }
 
-    // The world after entries that are permitted is shown, unless one of its numbers has no room in a word.
+    // The world after entries that are permitted is shown.
     ensures step { (job : Job) (text schedule : List ℕ) (p : Program) (h : List Entry) → job_by (map (λ word. word.now) words.now) ≡ Some job → job.mode ≡ Mode.Step
         → text_in (H.content host.old) job.file ≡ Some text → IsAccepted text p → IsWithin p
         → text_in (H.content host.old) job.schedule ≡ Some schedule → IsSchedule schedule h → job.number ≤ length h
         → IsSome (run p (bytes_of_region job) (first_of job h))
         → ¬ (Faulted (H.faults host.old) (H.faults host.new)) → ¬ (Faulted (K.faults out.old) (K.faults out.new))
-        → (result.end ≡ End.Made) ⊎ ((result.end ≡ End.TooLarge) ⊎ (result.end ≡ End.NoMemory)) }
+        → (result.end ≡ End.Made) ⊎ (result.end ≡ End.NoMemory) }
 {
     let (report, line) = serve(alloc, words, host, out);
     write_line(&report.end, line, log);

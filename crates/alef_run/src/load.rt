@@ -2,6 +2,7 @@
 
 ghost use Rattle.std.specs.Prelude.{◌≡◌, ◌≢◌, ◌≤◌, ◌⊎◌, ℕ, List, Some, None, length, take, drop, OnOk, OnErr, IfOk, IfErr};
 ghost use Rattle.al_host.specs.Outside.{Faulted, WhereTold};
+ghost use Rattle.al_counts.specs.Counts.{most_entries};
 ghost use Rattle.rv_image.specs.Spelling.{IsImage};
 ghost use Rattle.rv_image.specs.Front.{enough_of};
 ghost use Rattle.alef_run.specs.Call.{IsRead, text_in, LacksText, LeavesRest};
@@ -112,6 +113,7 @@ pub(crate) fn load_schedule<H: Host>(
     name: &str,
 ) -> Result<Vec<Entry>, End>
     ensures read { IfOk result (λ entries. IsScheduleRead name.now entries.items (H.content host.old) (H.content host.new) (H.faults host.old) (H.faults host.new)) }
+    ensures few { IfOk result (λ entries. length entries.items ≤ most_entries) }
     ensures none { IfErr result (λ end. LacksSchedule name.now end (H.content host.old) (H.faults host.old) (H.faults host.new)) }
 {
     match host.find(name) {

@@ -55,8 +55,6 @@ pub enum End {
     WriteFault,
     /// There was not enough memory.
     NoMemory,
-    /// A number of the program has no room in a word.
-    TooLarge,
 }
 
 /// What a call did.
@@ -123,7 +121,7 @@ pub(crate) fn status_of(end: &End) -> u8
         End::BadImage(_) => 9,
         End::BadSchedule(_) | End::BadEntry(_) | End::BadNumber(_) => 9,
         End::WriteFault => 4,
-        End::NoMemory | End::TooLarge => 8,
+        End::NoMemory => 8,
     }
 }
 
@@ -185,6 +183,5 @@ pub(crate) fn line_of<'a>(end: &End, line: u32, buf: &'a mut [u8; 80]) -> &'a [u
         }
         End::WriteFault => b"alef: cannot write\n",
         End::NoMemory => b"alef: out of memory\n",
-        End::TooLarge => b"alef: a number is too large\n",
     }
 }

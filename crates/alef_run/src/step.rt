@@ -3,11 +3,13 @@
 ghost use Rattle.std.specs.Prelude.{◌≡◌, ◌≤◌, ℕ, Option, [], None, length, take, IfOk};
 ghost use Rattle.al_host.specs.Outside.{Content};
 ghost use Rattle.al_region.specs.Region.{IsRegionSize};
-ghost use Rattle.al_typed.specs.Layout.{IsLaidOut};
+ghost use Rattle.al_typed.specs.Measures.{IsWithin};
+ghost use Rattle.al_typed.specs.Sound.{HasSoundTypes, IsShort};
+ghost use Rattle.al_counts.specs.Counts.{most_entries};
 ghost use Rattle.alef_run.specs.Status.{status_of};
 ghost use Rattle.alef_run.specs.Call.{call_by};
 ghost use Rattle.alef_run.specs.StepMode as spec;
-ghost use Rattle.alef_run.specs.StepMode.{EndsStep, EndsShow, IsProgramRead, IsFound, bytes_of_region};
+ghost use Rattle.alef_run.specs.StepMode.{EndsStep, EndsShow, IsProgramRead, IsFound, MayBeShown, bytes_of_region};
 
 use crate::load::{load_schedule, load_text};
 use crate::outside::write_all;
@@ -16,7 +18,7 @@ use al_event::Entry;
 use al_front::{FrontStop, front};
 use al_host::{Host, Sink};
 use al_items::Items;
-use al_show::{WalkStop, shown};
+use al_show::{ShowStop, shown};
 use al_typed::Program;
 use al_words::Job;
 use std::alloc::Global;
@@ -31,14 +33,13 @@ fn region_of(job: &Job) -> u32
     job.region * 0x10_0000
 }
 
-/// How a call ends whose walk stopped.
-fn end_of_walk(stop: WalkStop) -> End
-    ensures { result ≡ spec.end_of_walk stop }
+/// How a call ends that shows no world.
+fn end_of_show(stop: ShowStop) -> End
+    ensures { result ≡ spec.end_of_show stop }
 {
     match stop {
-        WalkStop::NotPermitted(number) => End::BadEntry(number),
-        WalkStop::TooLarge => End::TooLarge,
-        WalkStop::NoMemory => End::NoMemory,
+        ShowStop::NotPermitted(number) => End::BadEntry(number),
+        ShowStop::NoMemory => End::NoMemory,
     }
 }
 
@@ -50,13 +51,16 @@ fn show<K: Sink>(
     entries: &[Entry],
     out: &mut K,
 ) -> End
-    requires laid_out { IsLaidOut program.now.aggregates }
+    requires sound { HasSoundTypes program.now }
+    requires within { IsWithin program.now }
+    requires short { IsShort program.now }
     requires region { IsRegionSize region }
+    requires few { length entries.now ≤ most_entries }
     ensures { EndsShow program.now region entries.now result (K.got out.old) (K.got out.new) (K.faults out.old) (K.faults out.new) }
 {
     let text = match shown(alloc, program, region, entries) {
         Ok(text) => text,
-        Err(stop) => return end_of_walk(stop),
+        Err(stop) => return end_of_show(stop),
     };
     match write_all(out, text.as_slice()) {
         Ok(()) => End::Made,
@@ -104,7 +108,9 @@ fn step_along<H: Host, K: Sink>(
     host: &mut H,
     out: &mut K,
 ) -> Report
-    requires laid_out { IsLaidOut program.now.aggregates }
+    requires sound { HasSoundTypes program.now }
+    requires within { IsWithin program.now }
+    requires short { IsShort program.now }
     requires some_region { 1 ≤ job.now.region }
     requires region { job.now.region ≤ 256 }
     // Where the text of the program was read before.
@@ -136,7 +142,7 @@ fn step_found<H: Host, K: Sink>(
 ) -> Report
     requires some_region { 1 ≤ job.now.region }
     requires region { job.now.region ≤ 256 }
-    requires laid_out { IfOk found.now (λ p. IsLaidOut p.aggregates) }
+    requires fits { IfOk found.now MayBeShown }
     // Where the text was read before.
     ensures end { (told : Option Content) (faults : ℕ) → IsFound job.now.file found.now told (H.content host.old) faults (H.faults host.old)
         → EndsStep job.now (call_by told (H.content host.new) faults (H.faults host.new) (K.got out.old) (K.got out.new) (K.faults out.old) (K.faults out.new) result) result.end }
@@ -160,6 +166,7 @@ fn kept<T, U: Drop>(it: T, _other: U) -> T
 }
 
 /// Reads the text and the schedule that a job names, and shows the world of the text after as many entries as the job says.
+#[tactic(auto, using(crate::proofs::Stepping::found_fits))]
 pub(crate) fn step<H: Host, K: Sink>(alloc: Global, job: &Job, host: &mut H, out: &mut K) -> Report
     requires some_region { 1 ≤ job.now.region }
     requires region { job.now.region ≤ 256 }

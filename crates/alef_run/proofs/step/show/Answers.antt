@@ -1,10 +1,10 @@
 use Rattle.std.proofs.Common.{ℕ, List, sym, subst}
 use Rattle.al_show.specs.Walks.{IsShown}
-use Rattle.alef_run.proofs.Stepping.{walk_stopped}
+use Rattle.alef_run.proofs.Stepping.{show_stopped}
 use Rattle.alef_run.proofs.step.show.Goals as goal
 
 pub returns-in-Err : goal.returns-in-Err
-returns-in-Err g c = walk_stopped _ _ _ c.in-Err.stop _ _ _ c.in-Err.ensures.stop c.end_of_walk.ensures
+returns-in-Err g c = show_stopped _ _ _ c.in-Err.stop _ _ _ c.in-Err.ensures.stop c.end_of_show.ensures
 
 pub returns-in-Ok-write_all : goal.returns-in-Ok-write_all
 returns-in-Ok-write_all g c =
