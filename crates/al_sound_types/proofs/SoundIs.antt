@@ -68,8 +68,8 @@ pub function_is :
 function_is rows t returns x y parameters list sound returned parts is first second listed a so b also c =
     c ∙ ap (list_all (is_part rows)) listed
     ∙ sym (
-      ap (is_sound rows) is ∙ is_sound-Function rows returns parameters
-      ∙ ap₂ (λ d e. d && e && list_all (is_part rows) parameters) (ap (is_sound rows) (sym first) ∙ sym a ∙ so) (ap (is_returned rows) (sym second) ∙ sym b ∙ also)
+    ap (is_sound rows) is ∙ is_sound-Function rows returns parameters
+    ∙ ap₂ (λ d e. d && e && list_all (is_part rows) parameters) (ap (is_sound rows) (sym first) ∙ sym a ∙ so) (ap (is_returned rows) (sym second) ∙ sym b ∙ also)
     )
 
 -- ---- types in a row

@@ -47,7 +47,11 @@ fn functions_hold(rows: &[Aggregate], names: &MemberNames) -> bool
     requires { IsLaidOut rows.now }
     ensures { result ≡ spec.functions_hold rows.now names.now }
 {
-    names.functions.as_slice().iter().all(|f| signature_holds(rows, &f.signature))
+    names
+        .functions
+        .as_slice()
+        .iter()
+        .all(|f| signature_holds(rows, &f.signature))
 }
 
 fn rows_hold(rows: &[Aggregate], list: &[Aggregate]) -> bool

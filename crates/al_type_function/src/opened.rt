@@ -118,7 +118,12 @@ fn faults_of(
         p.types.as_slice(),
         &mut faults,
     )?;
-    ask_result(env.aggregates.as_slice(), head.name.at, returns, &mut faults)?;
+    ask_result(
+        env.aggregates.as_slice(),
+        head.name.at,
+        returns,
+        &mut faults,
+    )?;
     Ok(faults)
 }
 
