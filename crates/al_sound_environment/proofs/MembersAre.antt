@@ -68,11 +68,14 @@ leads_on rows n i t u path e l =
     let within = slice_get_within (members_of a) i t e in
     let inside : i < length (member_offsets rows a) = subst (λ x. i < x) (sym (member_offsets-length rows a)) within in
     let o = get_or (member_offsets rows a) i 0 in
-    let at : slice_get (member_offsets rows a) i ≡ Some o = slice_get-get_or (member_offsets rows a) i 0 inside in
-    (record { ty = l.0.ty; at = o + l.0.at },
-     (ap (λ r. beyond (slice_get (members_of r) i) (slice_get (member_offsets rows r) i) (member rows path)) (row_of-Aggregate rows n)
-     ∙ ap₂ (λ x y. beyond x y (member rows path)) e at ∙ ap (further o) l.1.0,
-     l.1.1))
+    let at : slice_get (member_offsets rows a) i ≡ Some o = slice_get-get_or (member_offsets rows a) i 0 inside in (
+      record { ty = l.0.ty; at = o + l.0.at },
+      (
+        ap (λ r. beyond (slice_get (members_of r) i) (slice_get (member_offsets rows r) i) (member rows path)) (row_of-Aggregate rows n)
+            ∙ ap₂ (λ x y. beyond x y (member rows path)) e at ∙ ap (further o) l.1.0,
+        l.1.1,
+      ),
+    )
 
 leads_nowhere : (rows : List AggregateRow) (t : Ty) → LeadsTo rows [] t t
 unfolding member

@@ -106,7 +106,9 @@ module _ (tree : Tree) (is : List Instance) (scopes : Scopes) (env : Environment
   module _ (strings functions iterators : ℕ) (many : bodies_in tree is ≤ functions) where
     calls_of : (f : Signature) (number : ℕ) (given : List Ty) → IsSoundSignature env.aggregates f → Calls (any_scope env strings functions iterators) f number given
     calls_of f number given s = record {
-      takes = s.sound; sound = s.sound; whole = s.whole;
+      takes = s.sound;
+      sound = s.sound;
+      whole = s.whole;
       passed = AllPass-from_list_all (is_passed env.aggregates) f.parameters s.passed;
     }
 
@@ -116,9 +118,10 @@ module _ (tree : Tree) (is : List Instance) (scopes : Scopes) (env : Environment
         let below = number_is n number f at e in
         record {
           calls = calls_of f number [] s;
-          value =
-              (sound-Pointer env.aggregates (ty.Function f.returns f.parameters) ∙ sound-Function env.aggregates f.returns f.parameters ∙ both _ _ (both _ _ s.sound s.whole) s.passed,
-              omega (arith, below, many));
+          value = (
+            sound-Pointer env.aggregates (ty.Function f.returns f.parameters) ∙ sound-Function env.aggregates f.returns f.parameters ∙ both _ _ (both _ _ s.sound s.whole) s.passed,
+            omega (arith, below, many),
+          );
         }
 
 place_of : (env : Environment) (strings functions iterators : ℕ) (v : Variable) → is_stored env.aggregates v.ty ≡ true
@@ -150,7 +153,8 @@ tells_of tree is scopes env r e strings functions iterators many here at_hand =
       methods = λ a name number f at v.
           let x = members_are_sound.owned fs b.laid.numbers b.laid.forms env.aggregates b.own env (have tree is scopes env b h) (stored tree is scopes env b h) (own tree is scopes env b h) b.names_are a name f at in
           record {
-            object = ty.Aggregate x.adt; leads = x.leads;
+            object = ty.Aggregate x.adt;
+            leads = x.leads;
             calls = calls_of tree is scopes env b h strings functions iterators many f.signature number _ (method_is tree is scopes env b h a name f at);
           };
     }

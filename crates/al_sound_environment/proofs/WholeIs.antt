@@ -62,10 +62,20 @@ is_built tree is scopes env h =
     let b = then_good (names_of types tree defined fs laid.forms laid.numbers) (λ names. and_then (globals_of types tree defined) (named types names)) env a.2 in
     let c = then_good (own_functions types tree.items defined fs laid.numbers) (member_names fs laid.numbers laid.forms) b.0 b.1 in
     let d = then_good (globals_of types tree defined) (named types b.0) env b.2 in
-    let j = judged_good (types_faults (with_names types b.0 d.0)) (with_names types b.0 d.0) env d.2 in
-    subst (IsBuilt tree is scopes) j.1 (record {
-      laid = laid; laid_is = a.1; own = c.0; own_is = c.1; names_are = c.2; found = d.0; found_is = d.1;
-      functions_are = refl {a = d.0.functions}; rows_are = refl {a = laid.aggregates}; scopes_are = refl {a = scopes}; holds = asked_true 18 first_place _ j.0;
+    let made = with_names types b.0 d.0 in
+    let j = judged_good (types_faults made) made env d.2 in
+    subst (IsBuilt tree is scopes) {x = made} j.1 (record {
+      laid = laid;
+      laid_is = a.1;
+      own = c.0;
+      own_is = c.1;
+      names_are = c.2;
+      found = d.0;
+      found_is = d.1;
+      functions_are = refl {a = d.0.functions};
+      rows_are = refl {a = laid.aggregates};
+      scopes_are = refl {a = scopes};
+      holds = asked_true 18 first_place (environment_holds made) j.0;
     })
 
 -- ---- what is asked of the types
@@ -83,9 +93,9 @@ unfolding environment_holds
 holds_are env h =
     let rows = env.aggregates in
     let e = and_both (list_all (has_stored rows) rows && list_all (is_known rows) env.types && list_all (is_instance rows) env.instances && list_all (is_global rows) env.globals
-        && list_all (signature_holds rows) env.functions) (list_all (functions_hold rows) env.names) h in
+    && list_all (signature_holds rows) env.functions) (list_all (functions_hold rows) env.names) h in
     let d = and_both (list_all (has_stored rows) rows && list_all (is_known rows) env.types && list_all (is_instance rows) env.instances && list_all (is_global rows) env.globals)
-        (list_all (signature_holds rows) env.functions) e.0 in
+    (list_all (signature_holds rows) env.functions) e.0 in
     let c = and_both (list_all (has_stored rows) rows && list_all (is_known rows) env.types && list_all (is_instance rows) env.instances) (list_all (is_global rows) env.globals) d.0 in
     let b = and_both (list_all (has_stored rows) rows && list_all (is_known rows) env.types) (list_all (is_instance rows) env.instances) c.0 in
     let a = and_both (list_all (has_stored rows) rows) (list_all (is_known rows) env.types) b.0 in
