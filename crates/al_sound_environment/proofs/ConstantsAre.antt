@@ -1,14 +1,13 @@
 -- The values of enum constants have no more bits than their kinds.
-use Rattle.std.proofs.Common.{◌≡◌, ℕ, zero, suc, ◌<◌, ◌^◌, Bool, true, false, List, [], ◌∷◌, ◌++◌, fold, Option, Some, None, option_map, arith, refl, sym, ap, subst, ◌∙◌, lit<, ℤ, pos, negsuc}
-use Rattle.std.specs.Prelude.{if◌then◌else◌, option_and_then, slice_get, unsigned_abs, ⊤}
+use Rattle.std.proofs.Common.{◌≡◌, ℕ, zero, suc, ◌<◌, ◌^◌, List, [], ◌∷◌, ◌++◌, fold, Option, Some, None, option_map, arith, ap, subst, ◌∙◌, lit<, ℤ, pos, negsuc}
+use Rattle.std.specs.Prelude.{unsigned_abs}
 use Rattle.std.specs.Int.{int_rem_euclid}
 use Rattle.al_base.specs.Arith.{width_of, wrapped, applied, exact_of}
 use Rattle.al_base.specs.declared.arith.Kind.{Kind}
 use Rattle.al_base.specs.declared.arith.Kind.TheVariants as kind
-use Rattle.al_base.specs.declared.arith.Op.{Op}
 use Rattle.al_base.specs.declared.arith.Op.TheVariants as op
 use Rattle.al_tree.specs.Integers.{arithmetic, common, in_kind, int, integer}
-use Rattle.al_tree.specs.Constants.{as_int, enum_constant, given, nothing_known, numbered, one_more, value, values, with_enum_name, with_item}
+use Rattle.al_tree.specs.Constants.{enum_constant, given, nothing_known, numbered, one_more, value, values, with_enum_name, with_item}
 use Rattle.al_tree.specs.declared.constants.EnumConstant.{EnumConstant}
 use Rattle.al_tree.specs.declared.expression.Name.{Name}
 use Rattle.al_tree.specs.declared.expression.Expr.{Expr}

@@ -1,5 +1,5 @@
 -- Sound types of pointers and functions, by their parts.
-use Rattle.std.proofs.Common.{◌≡◌, Bool, ◌&&◌, ◌||◌, List, refl, ap, ◌∙◌}
+use Rattle.std.proofs.Common.{◌≡◌, ◌&&◌, ◌||◌, List, refl, ap, ◌∙◌}
 use Rattle.std.specs.List.{list_all}
 use Rattle.al_typed.specs.declared.program.Aggregate.{Aggregate}
 use Rattle.al_typed.specs.declared.ty.Ty.{Ty, Row_of-Ty, end_of-Ty, more_of-Ty, items-the_row-Ty, items_hidden-the_row-Ty-1}

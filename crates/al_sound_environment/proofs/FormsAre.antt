@@ -1,6 +1,6 @@
 -- The form of a union has a member, where each union of a text has one.
-use Rattle.std.proofs.Common.{◌≡◌, ℕ, Bool, true, false, ◌&&◌, List, [], ◌∷◌, ◌++◌, map, fold, Option, Some, None, refl, sym, ap, subst, ◌∙◌}
-use Rattle.std.specs.Prelude.{if◌then◌else◌, is_some, ⊤}
+use Rattle.std.proofs.Common.{◌≡◌, ℕ, Bool, true, false, ◌&&◌, List, [], ◌∷◌, ◌++◌, map, fold, Option, Some, None, sym, subst, ◌∙◌}
+use Rattle.std.specs.Prelude.{if◌then◌else◌, is_some}
 use Rattle.std.specs.List.{list_all}
 use Rattle.al_base.specs.declared.place.Place.{Place}
 use Rattle.al_tree.specs.declared.type_tree.Dcl.{Dcl}
@@ -23,7 +23,7 @@ use Rattle.al_poly.specs.Instances.{belongs, owner_of}
 use Rattle.al_poly.specs.Types.{names_of}
 use Rattle.al_form.specs.declared.form.Form.{Form}
 use Rattle.al_form.specs.declared.form.FormMember.{FormMember}
-use Rattle.al_form.specs.Forms.{Reached, begun, closed_inner, closed_named, form, form_named, forms, is_intern, is_union, member, member_step, of_text, opened, with_adt_member, with_body, with_field, with_instance, with_item, with_member, with_name, with_part, with_plain}
+use Rattle.al_form.specs.Forms.{Reached, begun, closed_inner, closed_named, form, form_named, forms, is_intern, is_union, member, member_step, of_text, opened, with_adt_member, with_body, with_field, with_instance, with_item, with_name, with_part, with_plain}
 use Rattle.al_tree_laws.specs.Unions.{adt_member_declares_some, declares_some, has_some, item_has_members, tree_has_members}
 use Rattle.al_tree_laws.specs.Unions as law
 use Rattle.al_sound_environment.specs.Members.{Every}

@@ -1,6 +1,6 @@
 -- What is true of each of a list, of tests, and of outcomes.
-use Rattle.std.proofs.Common.{◌≡◌, ℕ, zero, suc, ◌<◌, Bool, true, false, ◌&&◌, List, [], ◌∷◌, ◌++◌, length, Option, Some, None, option_map, refl, sym, ap₂, subst}
-use Rattle.std.specs.Prelude.{All, if◌then◌else◌, nat_lt, option_and_then, slice_get, slice_set}
+use Rattle.std.proofs.Common.{◌≡◌, ℕ, zero, suc, Bool, true, false, ◌&&◌, List, [], ◌∷◌, ◌++◌, length, Option, Some, None, option_map, refl, sym, ap₂, subst}
+use Rattle.std.specs.Prelude.{if◌then◌else◌, nat_lt, option_and_then, slice_get, slice_set}
 use Rattle.std.specs.List.{list_all}
 use Rattle.al_base.specs.declared.place.Place.{Place}
 use Rattle.al_rules.specs.declared.fault.TypeFault.{TypeFault}

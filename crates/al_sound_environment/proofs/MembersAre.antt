@@ -1,21 +1,20 @@
 -- Members by their names lead to members.
-use Rattle.std.proofs.Common.{◌≡◌, ℕ, zero, suc, ◌+◌, ◌<◌, ◌≤◌, Bool, true, false, ◌&&◌, cond, List, [], ◌∷◌, ◌++◌, map, fold, length, get_or, Option, Some, None, option_map, arith, refl, sym, ap, ap₂, subst, ◌∙◌, append_assoc}
-use Rattle.std.specs.Prelude.{find, nat_eq, if◌then◌else◌, nat_le, slice_get, option_and_then, unwrap_or, ⊤}
-use Rattle.std.specs.List.{flat_map}
+use Rattle.std.proofs.Common.{◌≡◌, ℕ, zero, suc, ◌+◌, ◌<◌, Bool, true, false, cond, List, [], ◌∷◌, ◌++◌, map, fold, length, get_or, Option, Some, None, arith, refl, sym, ap, ap₂, subst, ◌∙◌, append_assoc}
+use Rattle.std.specs.Prelude.{find, nat_eq, if◌then◌else◌, nat_le, slice_get, unwrap_or}
 use Rattle.std.specs.Option.{option_to_list}
-use Rattle.std.proofs.lemmas.List.{append-nil, length-map}
-use Rattle.std.proofs.lemmas.Option.{slice_get_cases, slice_get-get_or, get_or_from_slice_get, slice_get_within}
+use Rattle.std.proofs.lemmas.List.{length-map}
+use Rattle.std.proofs.lemmas.Option.{slice_get-get_or, slice_get_within}
 use Rattle.al_base.specs.declared.place.Place.{Place}
 use Rattle.al_rules.specs.declared.fault.TypeFault.{TypeFault}
-use Rattle.al_rules.specs.Outcome.{Outcome, Good, and_then, ask, judge}
+use Rattle.al_rules.specs.Outcome.{Good, ask}
 use Rattle.al_typed.specs.declared.program.Aggregate.{Aggregate as AggregateRow}
 use Rattle.al_typed.specs.declared.ty.Ty.{Ty, roll-Ty}
 use Rattle.al_typed.specs.declared.ty.Ty.TheOpen.{Ty-F}
 use Rattle.al_typed.specs.declared.ty.Ty.TheVariants as ty
 use Rattle.al_typed.specs.declared.ty.Ty.TheViews.{out-Ty, roll-out-Ty}
 use denote.Hole.Carrier.{out}
-use Rattle.al_typed.specs.Layout.{Layout, Member, beyond, body_layout, further, is_union_of, layout, layouts_after, member, member_offsets, members_of, number_at, offsets_from, row_at, row_of}
-use Rattle.al_typed.specs.WellTyped.{LeadsTo, is_stored}
+use Rattle.al_typed.specs.Layout.{Layout, beyond, body_layout, further, is_union_of, layout, layouts_after, member, member_offsets, members_of, number_at, offsets_from, row_of}
+use Rattle.al_typed.specs.WellTyped.{LeadsTo}
 use Rattle.al_environment.specs.declared.environment.Environment.{Environment}
 use Rattle.al_environment.specs.declared.environment.MemberNames.{MemberNames}
 use Rattle.al_environment.specs.declared.environment.NamedFunction.{NamedFunction}
@@ -24,12 +23,12 @@ use Rattle.al_environment.specs.Lookups.{function_named, functions_in, member_na
 use Rattle.al_form.specs.declared.form.Form.{Form}
 use Rattle.al_form.specs.declared.form.FormMember.{FormMember}
 use Rattle.al_form.specs.declared.form.Forms.{Forms}
-use Rattle.al_layout.specs.Rules.{rule_7_member, rule_16_member, rule_18_size}
-use Rattle.al_layout.specs.Rows.{fault_of_member, faults_of_members, member_types, row, ty_of_member, types_of_member, types_of_members, with_form as with_row_form, with_members as with_row_members, with_number, with_rows}
+use Rattle.al_layout.specs.Rules.{rule_7_member, rule_18_size}
+use Rattle.al_layout.specs.Rows.{fault_of_member, faults_of_members, member_types, row, ty_of_member, types_of_members, with_form as with_row_form, with_members as with_row_members, with_number, with_rows}
 use Rattle.al_layout.specs.Types.{member_ty}
 use Rattle.al_member_names.specs.declared.function.OwnFunction.{OwnFunction}
 use Rattle.al_sound_environment.specs.Unnamed.{Walk}
-use Rattle.al_member_names.specs.Members.{aggregate_if, aggregate_of, begun, found, interns_of, lent, lent_function, member_names, names_at, names_in, no_names, of_form, of_members, own, own_at, with_all_lent, with_form, with_forms, with_function, with_lent, with_lent_function, with_member, with_members, with_name, with_numbered, with_own, with_own_function, with_ty, with_unnamed}
+use Rattle.al_member_names.specs.Members.{aggregate_if, aggregate_of, begun, interns_of, lent, lent_function, member_names, names_in, of_form, of_members, own, own_at, with_all_lent, with_form, with_forms, with_function, with_lent, with_lent_function, with_member, with_members, with_name, with_numbered, with_own_function, with_ty, with_unnamed}
 use Rattle.al_sound_environment.specs.Members.{AreForms, AreOwn, AreStored, Every, HaveMembers, IsNamed, IsOwned, MembersAreSound}
 use Rattle.al_sound_environment.proofs.Lists.{every_more, good_is, judged_good, none_in, some_is, then_good}
 
@@ -69,17 +68,20 @@ leads_on rows n i t u path e l =
     let within = slice_get_within (members_of a) i t e in
     let inside : i < length (member_offsets rows a) = subst (λ x. i < x) (sym (member_offsets-length rows a)) within in
     let o = get_or (member_offsets rows a) i 0 in
-    let at : slice_get (member_offsets rows a) i ≡ Some o = slice_get-get_or (member_offsets rows a) i 0 inside in
-    (record { ty = l.0.ty; at = o + l.0.at },
-     (ap (λ r. beyond (slice_get (members_of r) i) (slice_get (member_offsets rows r) i) (member rows path)) (row_of-Aggregate rows n)
-     ∙ ap₂ (λ x y. beyond x y (member rows path)) e at ∙ ap (further o) l.1.0,
-     l.1.1))
+    let at : slice_get (member_offsets rows a) i ≡ Some o = slice_get-get_or (member_offsets rows a) i 0 inside in (
+      record { ty = l.0.ty; at = o + l.0.at },
+      (
+        ap (λ r. beyond (slice_get (members_of r) i) (slice_get (member_offsets rows r) i) (member rows path)) (row_of-Aggregate rows n)
+            ∙ ap₂ (λ x y. beyond x y (member rows path)) e at ∙ ap (further o) l.1.0,
+        l.1.1,
+      ),
+    )
 
 leads_nowhere : (rows : List AggregateRow) (t : Ty) → LeadsTo rows [] t t
 unfolding member
 leads_nowhere rows t = (record { ty = t; at = 0 }, (refl, refl))
 
-aggregate_of-is : (t : Ty) (n : ℕ) → aggregate_of t ≡ Some n → t ≡ ty.Aggregate n
+pub aggregate_of-is : (t : Ty) (n : ℕ) → aggregate_of t ≡ Some n → t ≡ ty.Aggregate n
 unfolding aggregate_of
 aggregate_of-is t n h = sym (roll-out-Ty t) ∙ at (out-Ty t) h
   where

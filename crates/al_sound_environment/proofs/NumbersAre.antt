@@ -1,6 +1,6 @@
 -- The number of a function outside of adts is that of one of the definitions of a text.
-use Rattle.std.proofs.Common.{◌≡◌, ℕ, ◌+◌, ◌<◌, ◌≤◌, Bool, true, false, List, [], ◌∷◌, map, fold, length, Option, Some, None, arith, refl, subst}
-use Rattle.std.specs.Prelude.{if◌then◌else◌, is_some, nat_le, slice_get, ⊤}
+use Rattle.std.proofs.Common.{◌≡◌, ℕ, ◌+◌, ◌<◌, Bool, true, false, List, [], ◌∷◌, map, fold, length, Option, Some, None, arith, refl, subst}
+use Rattle.std.specs.Prelude.{if◌then◌else◌, is_some, nat_le, slice_get}
 use Rattle.al_tree.specs.declared.item.Declarator.{Declarator}
 use Rattle.al_tree.specs.declared.item.Declarator.TheVariants as declarator
 use Rattle.al_tree.specs.declared.item.Head.{Head}
@@ -15,7 +15,6 @@ use Rattle.al_rules.specs.Outcome.{Good}
 use Rattle.al_scope.specs.Firsts.{declaration_at}
 use Rattle.al_typed.specs.declared.ty.Ty.{Ty}
 use Rattle.al_environment.specs.declared.environment.Environment.{Environment}
-use Rattle.al_environment.specs.declared.environment.Here.{Here}
 use Rattle.al_environment.specs.declared.environment.Signature.{Signature}
 use Rattle.al_environment.specs.Written.{written}
 use Rattle.al_declare.specs.declared.function.Defined.{Defined}
@@ -23,7 +22,7 @@ use Rattle.al_layout.specs.Types.{within}
 use Rattle.al_type_rules.specs.Types.{declared, known, signature, signature_faults, variable_faults}
 use Rattle.al_globals.specs.Numbers.{name_at, no_number, number_of, numbers, with_definitions, with_name}
 use Rattle.al_globals.specs.declared.found.Found.{Found}
-use Rattle.al_globals.specs.Globals.{asked_main, begun, first_signature, function_in, global_in, globals, is_private_word, numbered, outside, rule_of, with_base_dcl, with_dcl, with_declarator, with_faults, with_function_type, with_global, with_global_if, with_head, with_item, with_main, with_members, with_owner, with_plain_head, with_signature_if, with_type, with_typedef}
+use Rattle.al_globals.specs.Globals.{asked_main, begun, first_signature, function_in, global_in, globals, is_private_word, numbered, outside, rule_of, with_base_dcl, with_dcl, with_declarator, with_faults, with_global, with_global_if, with_item, with_owner, with_plain_head, with_signature_if, with_type}
 use Rattle.al_sound_environment.specs.Members.{Every}
 use Rattle.al_sound_environment.proofs.Lists.{every_at, every_put, every_set, judged_good, some_is}
 
@@ -57,7 +56,7 @@ none_below count (n ∷ names) = (λ m e. absurd (cc), none_below count names)
 
 pub numbers_below : (names : List (List ℕ)) (items : List Item) (ds : List Defined) → Every (IsBelow (length ds)) (numbers names items ds)
 unfolding numbers
-numbers_below names items ds = definitions_below items (length ds) 0 ds (map no_number names) refl (none_below (length ds) names)
+numbers_below names items ds = definitions_below items (length ds) 0 ds (map no_number names) (omega arith) (none_below (length ds) names)
 
 number_below : (count : ℕ) (ns : List (Option ℕ)) (name : ℕ) → Every (IsBelow count) ns → IsBelow count (number_of ns name)
 number_below count ns name all = go (slice_get ns name) refl

@@ -1,6 +1,6 @@
 -- Each number of the order of forms is that of a form.
-use Rattle.std.proofs.Common.{◌≡◌, ℕ, zero, suc, ◌+◌, ◌<◌, Bool, true, false, ◌&&◌, List, [], ◌∷◌, map, length, Some, arith, refl, subst, inl, inr}
-use Rattle.std.specs.Prelude.{if◌then◌else◌, not, slice_get}
+use Rattle.std.proofs.Common.{◌≡◌, ℕ, zero, suc, ◌+◌, ◌<◌, Bool, true, false, ◌&&◌, List, [], ◌∷◌, map, length, arith, refl, subst, inl, inr}
+use Rattle.std.specs.Prelude.{if◌then◌else◌, not}
 use Rattle.std.specs.List.{list_all}
 use Rattle.std.proofs.lemmas.List.{length-map}
 use Rattle.std.proofs.lemmas.Option.{slice_get_cases}
@@ -59,11 +59,13 @@ order_below graph =
 
 every_form : (fs : Forms) (ks : List ℕ) → Below (length fs.list) ks → AreForms fs ks
 every_form fs [] h = tt
-every_form fs (k ∷ ks) h =
-    (elim (slice_get_cases fs.list k).1 [
-      | inl x ↦ (x.0, x.2)
-      | inr x ↦ absurd (omega (arith, x.0, h.0))
-    ], every_form fs ks h.1)
+every_form fs (k ∷ ks) h = (
+  elim (slice_get_cases fs.list k).1 [
+    | inl x ↦ (x.0, x.2)
+    | inr x ↦ absurd (omega (arith, x.0, h.0))
+  ],
+  every_form fs ks h.1,
+)
 
 pub are_forms : (fs : Forms) (laid : LaidOut) → laid_out fs ≡ Good laid → AreForms fs laid.forms
 unfolding laid_out

@@ -1,6 +1,6 @@
 -- The functions that adts have of their own are called on the adts themselves.
-use Rattle.std.proofs.Common.{◌≡◌, ℕ, Bool, true, false, List, [], ◌∷◌, ◌++◌, map, fold, reverse, Option, Some, None, refl, sym, subst}
-use Rattle.std.specs.Prelude.{if◌then◌else◌, nat_eq, slice_get, unwrap_or, ⊤}
+use Rattle.std.proofs.Common.{◌≡◌, ℕ, ◌+◌, Bool, true, false, List, [], ◌∷◌, map, fold, reverse, Option, Some, None, refl, sym, subst}
+use Rattle.std.specs.Prelude.{if◌then◌else◌, nat_eq, slice_get, unwrap_or}
 use Rattle.std.proofs.lemmas.List.{reverse-append}
 use Rattle.al_tree.specs.declared.expression.Name.{Name}
 use Rattle.al_tree.specs.declared.item.AdtMember.{AdtMember}
@@ -18,15 +18,11 @@ use Rattle.al_form.specs.declared.form.InstanceForm.{InstanceForm}
 use Rattle.al_declare.specs.declared.function.Defined.{Defined}
 use Rattle.al_build_types.specs.Built.{instance}
 use Rattle.al_member_names.specs.declared.function.OwnFunction.{OwnFunction}
-use Rattle.al_member_names.specs.Members.{own_at}
-use Rattle.al_adt_functions.specs.declared.owned.AdtFunctions.{AdtFunctions}
-use Rattle.al_adt_functions.specs.declared.owned.Adts.{Adts}
-use Rattle.al_adt_functions.specs.declared.owned.Body.{Body}
-use Rattle.al_adt_functions.specs.declared.owned.Owned.{Owned}
 use Rattle.al_adt_functions.specs.Owned.{adts, aggregate_named, begun, instance_owned, own_function, plain_owned, with_closed, with_instance, with_instance_item, with_instances, with_item, with_member, with_owned, with_part, with_plain}
 use Rattle.al_adt_functions.specs.Functions.{faults_of, functions, no_functions, own_functions, placed, with_functions}
+use Rattle.al_sound_environment.specs.Unnamed.{AdtFunctions, Adts, Body, Owned}
 use Rattle.al_sound_environment.specs.Members.{AreOwn, Every}
-use Rattle.al_sound_environment.proofs.Lists.{every_append, every_at, every_more, every_set, judged_good}
+use Rattle.al_sound_environment.proofs.Lists.{every_at, every_more, every_set, judged_good}
 
 abbrev IsPlain : OwnFunction → Type 0
 IsPlain f = f.function.path ≡ []
@@ -88,7 +84,7 @@ module _ (env : Environment) (items : List Item) (defined : List Defined) where
   instances_plain : (fs : Forms) (ns : List ℕ) (from : ℕ) (is : List InstanceForm) (w : Adts) → Every HasPlain w.list → Every HasPlain (with_instances env items defined fs ns from is w).list
   unfolding with_instances
   instances_plain fs ns from [] w h = h
-  instances_plain fs ns from (i ∷ is) w h = instances_plain fs ns _ is (with_instance env items defined from w (instance fs ns i)) (instance_plain from w (instance fs ns i) h)
+  instances_plain fs ns from (i ∷ is) w h = instances_plain fs ns (from + 1) is (with_instance env items defined from w (instance fs ns i)) (instance_plain from w (instance fs ns i) h)
 
   adts_plain : (fs : Forms) (ns : List ℕ) → Every HasPlain (adts env items defined fs ns).list
   unfolding adts

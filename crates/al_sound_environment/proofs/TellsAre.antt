@@ -1,6 +1,6 @@
 -- The environment of a text tells of any names.
-use Rattle.std.proofs.Common.{◌≡◌, ℕ, ◌<◌, ◌≤◌, Bool, true, ◌&&◌, ◌||◌, cond, List, [], ◌∷◌, length, Option, Some, None, arith, refl, sym, ap, subst, ◌∙◌}
-use Rattle.std.specs.Prelude.{All, find, nat_eq, slice_get}
+use Rattle.std.proofs.Common.{◌≡◌, ℕ, ◌<◌, ◌≤◌, Bool, true, false, ◌&&◌, ◌||◌, cond, List, [], ◌∷◌, Option, Some, None, arith, refl, sym, ap, subst, ◌∙◌}
+use Rattle.std.specs.Prelude.{find, nat_eq, slice_get}
 use Rattle.std.specs.List.{list_all}
 use Rattle.std.proofs.lemmas.List.Sums.{AllPass-from_list_all}
 use Rattle.al_tree.specs.declared.item.Tree.{Tree}
@@ -32,7 +32,7 @@ use Rattle.al_sound_types.specs.Types.{is_part, is_returned}
 use Rattle.al_build_environment.specs.Whole.{environment, types_of}
 use Rattle.al_sound_operators.specs.Typed.{IsSoundPlace}
 use Rattle.al_sound_nodes.specs.Nodes.{Calls, IsFunctionOf, IsGlobalOf, IsReached, Tells, is_passed}
-use Rattle.al_sound_environment.specs.Members.{AreStored, HaveMembers}
+use Rattle.al_sound_environment.specs.Members.{AreOwn, AreStored, HaveMembers}
 use Rattle.al_sound_environment.specs.Tells.{EnvironmentTells, HasStored, any_scope, bodies_in}
 use Rattle.al_sound_environment.proofs.Lists.{all_at, and_both, both, every_at, some_is}
 use Rattle.al_sound_environment.proofs.Forms.{sound-Function, sound-Pointer}
@@ -51,6 +51,7 @@ record IsSoundSignature (rows : List Aggregate) (f : Signature) : Type 0 where
   passed : list_all (is_passed rows) f.parameters ≡ true
 
 signature_is : (rows : List Aggregate) (f : Signature) → signature_holds rows f ≡ true → IsSoundSignature rows f
+unfolding is_returned
 signature_is rows f h =
     let a = and_both (is_sound rows f.returns && is_returned rows f.returns) (list_all (is_part rows) f.parameters) h in
     let b = and_both (is_sound rows f.returns) (is_returned rows f.returns) a.0 in
@@ -58,11 +59,11 @@ signature_is rows f h =
 
 found_true : {A : Type 0} (p test : A → Bool) (xs : List A) (x : A) → find test xs ≡ Some x → list_all p xs ≡ true → p x ≡ true
 found_true p test [] x h all = absurd (cc)
-found_true p test (y ∷ ys) x h all = go (test y) h
+found_true p test (y ∷ ys) x h all = go (test y) h (λ e. found_true p test ys x e (and_both (p y) _ all).1)
   where
-    go : (b : Bool) → cond b (Some y) (find test ys) ≡ Some x → p x ≡ true
-    go true h = subst (λ z. p z ≡ true) (some_is h) (and_both (p y) _ all).0
-    go false h = found_true p test ys x h (and_both (p y) _ all).1
+    go : (b : Bool) → cond b (Some y) (find test ys) ≡ Some x → (find test ys ≡ Some x → p x ≡ true) → p x ≡ true
+    go true h rest = subst (λ z. p z ≡ true) (some_is h) (and_both (p y) _ all).0
+    go false h rest = rest h
 
 stored_at : (rows : List Aggregate) → ((k : ℕ) (a : Aggregate) → slice_get rows k ≡ Some a → list_all (is_stored rows) (members_of (Some a)) ≡ true) → AreStored rows
 stored_at rows h n i t e = go (slice_get rows n) refl e
@@ -83,7 +84,7 @@ module _ (tree : Tree) (is : List Instance) (scopes : Scopes) (env : Environment
       subst (λ rows. HaveMembers (forms tree is) b.laid.numbers rows b.laid.forms) (sym b.rows_are)
       (members_are_sound.have_members (forms tree is) b.laid.numbers b.laid.forms b.laid.aggregates (are_forms (forms tree is) b.laid b.laid_is) (rows_of (forms tree is) b.laid b.laid_is))
 
-  own : _
+  own : AreOwn b.own
   own = own_are (types_of tree (forms tree is) scopes b.laid) tree.items (functions_of tree.items is) (forms tree is) b.laid.numbers b.own b.own_is
 
   method_is : (aggregate name : ℕ) (f : NamedFunction) → function_named env aggregate name ≡ Some f → IsSoundSignature env.aggregates f.signature
@@ -105,7 +106,9 @@ module _ (tree : Tree) (is : List Instance) (scopes : Scopes) (env : Environment
   module _ (strings functions iterators : ℕ) (many : bodies_in tree is ≤ functions) where
     calls_of : (f : Signature) (number : ℕ) (given : List Ty) → IsSoundSignature env.aggregates f → Calls (any_scope env strings functions iterators) f number given
     calls_of f number given s = record {
-      takes = s.sound; sound = s.sound; whole = s.whole;
+      takes = s.sound;
+      sound = s.sound;
+      whole = s.whole;
       passed = AllPass-from_list_all (is_passed env.aggregates) f.parameters s.passed;
     }
 
@@ -115,9 +118,10 @@ module _ (tree : Tree) (is : List Instance) (scopes : Scopes) (env : Environment
         let below = number_is n number f at e in
         record {
           calls = calls_of f number [] s;
-          value =
-              (sound-Pointer env.aggregates (ty.Function f.returns f.parameters) ∙ sound-Function env.aggregates f.returns f.parameters ∙ both _ _ (both _ _ s.sound s.whole) s.passed,
-              omega (arith, below, many));
+          value = (
+            sound-Pointer env.aggregates (ty.Function f.returns f.parameters) ∙ sound-Function env.aggregates f.returns f.parameters ∙ both _ _ (both _ _ s.sound s.whole) s.passed,
+            omega (arith, below, many),
+          );
         }
 
 place_of : (env : Environment) (strings functions iterators : ℕ) (v : Variable) → is_stored env.aggregates v.ty ≡ true
@@ -149,7 +153,8 @@ tells_of tree is scopes env r e strings functions iterators many here at_hand =
       methods = λ a name number f at v.
           let x = members_are_sound.owned fs b.laid.numbers b.laid.forms env.aggregates b.own env (have tree is scopes env b h) (stored tree is scopes env b h) (own tree is scopes env b h) b.names_are a name f at in
           record {
-            object = ty.Aggregate x.adt; leads = x.leads;
+            object = ty.Aggregate x.adt;
+            leads = x.leads;
             calls = calls_of tree is scopes env b h strings functions iterators many f.signature number _ (method_is tree is scopes env b h a name f at);
           };
     }
@@ -157,7 +162,7 @@ tells_of tree is scopes env r e strings functions iterators many here at_hand =
 reached_of : (env : Environment) (strings functions iterators : ℕ) (here : Here) → HasStored env.aggregates here → (d : Option Declaration)
     → IsReached (any_scope env strings functions iterators) here d
 unfolding IsPlace
-reached_of env strings functions iterators here at_hand (Some (declaration.Outer k n)) r v around at =
+reached_of env strings functions iterators here at_hand (Some (declaration.Outer k n)) = λ r v around at.
     let e = at_hand.outers k n r v around at in
     record { place = e; sound = sound_of env.aggregates v.ty e }
 reached_of env strings functions iterators here at_hand (Some (declaration.Global n)) = tt

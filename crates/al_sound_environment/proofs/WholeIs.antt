@@ -1,25 +1,20 @@
 -- The environment of a whole text is sound.
-use Rattle.std.proofs.Common.{◌≡◌, ℕ, ◌<◌, Bool, true, ◌&&◌, List, [], length, Option, Some, None, arith, refl, sym, ap, subst, ◌∙◌}
-use Rattle.std.specs.Prelude.{All, nat_lt, option_and_then, slice_get}
+use Rattle.std.proofs.Common.{◌≡◌, ℕ, ◌<◌, true, ◌&&◌, List, [], length, Option, Some, None, arith, refl, sym, ap, subst, ◌∙◌}
+use Rattle.std.specs.Prelude.{nat_lt, slice_get}
 use Rattle.std.specs.List.{list_all}
 use Rattle.std.proofs.lemmas.Bool.Decides.{nat_tests}
 use Rattle.std.proofs.lemmas.List.Sums.{AllPass-from_list_all}
 use Rattle.al_tree.specs.declared.item.Tree.{Tree}
-use Rattle.al_rules.specs.Outcome.{Good, and_then, ask}
+use Rattle.al_rules.specs.Outcome.{Good, and_then}
 use Rattle.al_scope.specs.declared.declaration.Scopes.{Scopes}
 use Rattle.al_typed.specs.declared.program.Aggregate.{Aggregate}
-use Rattle.al_typed.specs.declared.ty.Ty.{Ty, roll-Ty}
-use Rattle.al_typed.specs.declared.ty.Ty.TheOpen.{Ty-F}
+use Rattle.al_typed.specs.declared.ty.Ty.{Ty}
 use Rattle.al_typed.specs.declared.ty.Ty.TheVariants as ty
 use Rattle.al_typed.specs.Layout.{IsLaidOut, members_of}
 use Rattle.al_typed.specs.WellTyped.{is_sound, is_stored}
 use Rattle.al_poly.specs.declared.instance.Instance.{Instance}
 use Rattle.al_environment.specs.declared.environment.Environment.{Environment}
 use Rattle.al_environment.specs.declared.environment.InstanceType.{InstanceType}
-use Rattle.al_environment.specs.declared.environment.MemberNames.{MemberNames}
-use Rattle.al_environment.specs.declared.environment.NamedFunction.{NamedFunction}
-use Rattle.al_environment.specs.declared.environment.Signature.{Signature}
-use Rattle.al_environment.specs.declared.environment.Variable.{Variable}
 use Rattle.al_environment.specs.Lookups.{plain_type, there}
 use Rattle.al_form.specs.Forms.{forms}
 use Rattle.al_layout.specs.declared.row.LaidOut.{LaidOut}
@@ -31,13 +26,12 @@ use Rattle.al_adt_functions.specs.Functions.{functions as own_functions}
 use Rattle.al_adt_functions.specs.Owned.{aggregate_named, here_in}
 use Rattle.al_globals.specs.Numbers.{numbers}
 use Rattle.al_globals.specs.declared.found.Found.{Found}
-use Rattle.al_globals.specs.Globals.{globals, start}
+use Rattle.al_globals.specs.Globals.{globals}
 use Rattle.al_sound_types.specs.Environment.{environment_holds, functions_hold, has_stored, is_global, is_instance, is_known, signature_holds}
-use Rattle.al_build_environment.specs.Whole.{environment, globals_of, laid_whole, named, names_of, types_of, whole, with_names}
+use Rattle.al_build_environment.specs.Whole.{checked, environment, first_place, globals_of, laid_whole, named, names_of, types_faults, types_of, whole, with_names}
 use Rattle.al_tree_laws.specs.Unions.{tree_has_members}
-use Rattle.al_sound_environment.specs.Members.{Every}
 use Rattle.al_sound_environment.specs.Whole.{EnvironmentIsSound, IsSoundEnvironment, UnionsAreFilled}
-use Rattle.al_sound_environment.proofs.Lists.{all_at, and_both, asked_true, every_at, good_is, judged_good, then_good, then_some}
+use Rattle.al_sound_environment.proofs.Lists.{all_at, and_both, asked_true, every_at, judged_good, then_good, then_some}
 use Rattle.al_sound_environment.proofs.RowsAre.{are_rows, rows_of, small_row}
 use Rattle.al_sound_environment.proofs.MembersAre.{aggregate_of-is}
 use Rattle.al_sound_environment.proofs.FormsAre.{forms_filled}
@@ -58,7 +52,7 @@ pub record IsBuilt (tree : Tree) (is : List Instance) (scopes : Scopes) (env : E
   pub holds : environment_holds env ≡ true
 
 pub is_built : (tree : Tree) (is : List Instance) (scopes : Scopes) (env : Environment) → environment tree is scopes ≡ Good env → IsBuilt tree is scopes env
-unfolding environment whole
+unfolding environment whole checked
 is_built tree is scopes env h =
     let fs = forms tree is in
     let defined = functions tree.items is in
@@ -68,10 +62,20 @@ is_built tree is scopes env h =
     let b = then_good (names_of types tree defined fs laid.forms laid.numbers) (λ names. and_then (globals_of types tree defined) (named types names)) env a.2 in
     let c = then_good (own_functions types tree.items defined fs laid.numbers) (member_names fs laid.numbers laid.forms) b.0 b.1 in
     let d = then_good (globals_of types tree defined) (named types b.0) env b.2 in
-    let j = judged_good (ask 18 start (environment_holds (with_names types b.0 d.0))) (with_names types b.0 d.0) env d.2 in
-    subst (IsBuilt tree is scopes) j.1 (record {
-      laid = laid; laid_is = a.1; own = c.0; own_is = c.1; names_are = c.2; found = d.0; found_is = d.1;
-      functions_are = refl; rows_are = refl; scopes_are = refl; holds = asked_true 18 start _ j.0;
+    let made = with_names types b.0 d.0 in
+    let j = judged_good (types_faults made) made env d.2 in
+    subst (IsBuilt tree is scopes) {x = made} j.1 (record {
+      laid = laid;
+      laid_is = a.1;
+      own = c.0;
+      own_is = c.1;
+      names_are = c.2;
+      found = d.0;
+      found_is = d.1;
+      functions_are = refl {a = d.0.functions};
+      rows_are = refl {a = laid.aggregates};
+      scopes_are = refl {a = scopes};
+      holds = asked_true 18 first_place (environment_holds made) j.0;
     })
 
 -- ---- what is asked of the types
@@ -89,9 +93,9 @@ unfolding environment_holds
 holds_are env h =
     let rows = env.aggregates in
     let e = and_both (list_all (has_stored rows) rows && list_all (is_known rows) env.types && list_all (is_instance rows) env.instances && list_all (is_global rows) env.globals
-        && list_all (signature_holds rows) env.functions) (list_all (functions_hold rows) env.names) h in
+    && list_all (signature_holds rows) env.functions) (list_all (functions_hold rows) env.names) h in
     let d = and_both (list_all (has_stored rows) rows && list_all (is_known rows) env.types && list_all (is_instance rows) env.instances && list_all (is_global rows) env.globals)
-        (list_all (signature_holds rows) env.functions) e.0 in
+    (list_all (signature_holds rows) env.functions) e.0 in
     let c = and_both (list_all (has_stored rows) rows && list_all (is_known rows) env.types && list_all (is_instance rows) env.instances) (list_all (is_global rows) env.globals) d.0 in
     let b = and_both (list_all (has_stored rows) rows && list_all (is_known rows) env.types) (list_all (is_instance rows) env.instances) c.0 in
     let a = and_both (list_all (has_stored rows) rows) (list_all (is_known rows) env.types) b.0 in

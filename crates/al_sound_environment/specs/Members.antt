@@ -1,5 +1,5 @@
 -- Members and functions by their names lead to members and to objects, where the rows have the members that the forms have.
-use Rattle.std.specs.Prelude.{◌≡◌, ℕ, List, [], ◌∷◌, Option, Some, None, slice_get, true, ⊤}
+use Rattle.std.specs.Prelude.{◌≡◌, ℕ, List, [], ◌∷◌, Some, slice_get, true, ⊤}
 use Rattle.al_rules.specs.Outcome.{Good}
 use Rattle.al_typed.specs.declared.program.Aggregate.{Aggregate as AggregateRow}
 use Rattle.al_typed.specs.declared.ty.Ty.{Ty}
