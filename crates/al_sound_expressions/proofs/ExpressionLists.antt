@@ -16,7 +16,7 @@ use Rattle.al_convert.specs.Same.{all_pass, pass}
 use Rattle.al_operands.specs.declared.operand.Operand.{Operand}
 use Rattle.al_operands.specs.Operands.{taken}
 use Rattle.al_type_expr.specs.declared.columns.Columns.{Columns}
-use Rattle.al_type_expr.specs.Lists.{argument, arguments, columns, each, print_of, prints, sequence, sequenced, tuple, with_last, with_part}
+use Rattle.al_type_expr.specs.Lists.{argument, arguments, columns, each, print_of, prints, rule_18_tuple, sequence, sequenced, small_tuple, tuple, with_last, with_part}
 use Rattle.al_sound_operators.specs.Typed.{IfGood, IsOperand, IsTyped, has_type}
 use Rattle.al_sound_operators.specs.Operands.{IsOf}
 use Rattle.al_sound_operators.specs.Operators.{IsPrinted}
@@ -26,7 +26,7 @@ use Rattle.al_sound_operators.proofs.TypeForms.{parts_of-Tuple}
 use Rattle.al_sound_operators.proofs.SameTypes.{and_both}
 use Rattle.al_sound_operators.proofs.SoundTypes.{tuple_is_whole}
 use Rattle.al_sound_operators.proofs.Literals.{has_type-Tuple}
-use Rattle.al_sound_operators.proofs.Outcomes.{after}
+use Rattle.al_sound_operators.proofs.Outcomes.{after, asked}
 use Rattle.al_sound_operators.proofs.OperandsAre.{taken_is}
 use Rattle.al_sound_operators.proofs.CastsAre.{printable_is}
 use Rattle.al_sound_operators.proofs.PlacesAre.{both_true}
@@ -63,7 +63,7 @@ columns_are s [] h = record { types = refl; values = tt; passed = refl; written 
 columns_are s (x ∷ xs) h =
     both_hold (IsOperand s) (AreColumns s) (AreColumns s) x (columns xs) (λ x c. Good (with_part x c)) h.0 (columns_are s xs h.1) (λ x c o a. part_columns s x c o a)
 
-pub tuple_is : (s : Scope) (c : Columns) → AreColumns s c → is_small (rows s) (ty.Tuple c.types) ≡ true → IsFound s (tuple c)
+tuple_is : (s : Scope) (c : Columns) → AreColumns s c → is_small (rows s) (ty.Tuple c.types) ≡ true → IsFound s (tuple c)
 unfolding tuple
 tuple_is s c a small =
     let sound = sound-Tuple (rows s) c.types a.passed small in
@@ -75,6 +75,10 @@ tuple_is s c a small =
       });
       written = has_type-Tuple c.written (ty.Tuple c.types) ∙ ap (pass (map has_type c.written)) (parts_of-Tuple c.types) ∙ a.written;
     }
+
+pub small_tuple_is : (s : Scope) (at : Place) (c : Columns) → AreColumns s c → IfGood (small_tuple (rows s) at c) (IsFound s)
+unfolding small_tuple
+small_tuple_is s at c a = asked (IsFound s) 18 at (rule_18_tuple (rows s) c.types) (tuple c) (λ q. tuple_is s c a q)
 
 -- ---- arguments
 

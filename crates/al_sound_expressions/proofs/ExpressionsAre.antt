@@ -21,7 +21,7 @@ use Rattle.al_typed.specs.declared.expression.TTarget.{TTarget}
 use Rattle.al_typed.specs.declared.expression.TTarget.TheVariants as target
 use Rattle.al_typed.specs.Types.{is_array, is_complete, is_whole}
 use Rattle.al_typed.specs.Typed.{place_type, target_type, type_of}
-use Rattle.al_typed.specs.WellTyped.{Scope, is_small, is_sound, rows}
+use Rattle.al_typed.specs.WellTyped.{Scope, is_sound, rows}
 use Rattle.al_typed.proofs.ValueRules as value_rules
 use Rattle.al_typed.proofs.ValueRules.{IsValue-Assign, IsValue-Call, IsValue-CallPointer, target_types_are}
 use Rattle.al_convert.specs.Same.{parts_of}
@@ -44,16 +44,16 @@ use Rattle.al_type_calls.specs.declared.callee.Callee.TheVariants as callee
 use Rattle.al_type_calls.specs.Callees.{pointer_callee}
 use Rattle.al_type_expr.specs.Leaves.{assign_node, assigned_to, character, iterator_found, nil_found, number, place_target, text_found, whole_target}
 use Rattle.al_type_expr.specs.Leaves as leaves
-use Rattle.al_type_expr.specs.Lists.{arguments, columns, each, prints, sequenced, tuple}
+use Rattle.al_type_expr.specs.Lists.{arguments, columns, each, prints, rule_18_tuple, sequenced, small_tuple, target_types}
 use Rattle.al_type_expr.specs.Parts.{cast_to, compound, gives, is_at, member_callee, member_found, postfix_found, type_sized, unary}
-use Rattle.al_type_expr.specs.Nodes.{Node, aim, all_parts, assigned, assignment, called, dropped_of, format_call, nil_aim, operand_of, plain_node, print_call, step, target_rule, targets, terminate_call, tuple_aim, tuple_target}
+use Rattle.al_type_expr.specs.Nodes.{Node, aim, all_parts, assigned, assignment, called, dropped_of, format_call, nil_aim, operand_of, plain_node, print_call, small_target, step, target_rule, targets, terminate_call, tuple_aim, tuple_target}
 use Rattle.al_sound_operators.specs.Typed.{IfGood, IsOperand, IsSoundPlace, IsTyped, IsUsable}
 use Rattle.al_sound_operators.specs.Operands.{IsOf}
 use Rattle.al_sound_operators.specs.Operators.{IsPrinted}
 use Rattle.al_sound_operators.specs.Places.{IsOpenPlace}
 use Rattle.al_sound_nodes.specs.Nodes.{IsFound, IsShared, Tells}
 use Rattle.al_sound_nodes.specs.Callees.{IsCallee, IsGivenBy}
-use Rattle.al_sound_expressions.specs.Expressions.{AreAimed, EachPart, Every, IsAimed, IsFit, IsNode, is_small_target}
+use Rattle.al_sound_expressions.specs.Expressions.{AreAimed, EachPart, Every, IsAimed, IsFit, IsNode}
 use Rattle.al_sound_operators.proofs.TypeForms.{tuple_is}
 use Rattle.al_sound_operators.proofs.SameTypes.{and_both}
 use Rattle.al_sound_operators.proofs.Outcomes.{after, also, asked, paired, where_good}
@@ -65,7 +65,7 @@ use Rattle.al_sound_operators.proofs.PlacesAre.{both_true, index_is, updated_is}
 use Rattle.al_sound_nodes.proofs.NodesAre.{declared_is, dropped_is, each_passed, operand_is, placed_is, sized_is, usable_typed}
 use Rattle.al_sound_nodes.proofs.CalleesAre.{declared_callee_is, pointer_callee_is}
 use Rattle.al_sound_expressions.proofs.TargetsAre.{aimed_is, tuple_parts}
-use Rattle.al_sound_expressions.proofs.ExpressionLists.{AreArguments, AreColumns, arguments_are, both_hold, columns_are, each_is, prints_are, sequenced_is, tuple_is as columns_tuple}
+use Rattle.al_sound_expressions.proofs.ExpressionLists.{AreArguments, AreColumns, arguments_are, both_hold, columns_are, each_is, prints_are, sequenced_is, small_tuple_is}
 use Rattle.al_sound_expressions.proofs.NodesOf.{cast_to_is, character_is, gives_typed, gives_usable, is_at_is, iterator_is, member_callee_is, member_found_is, nil_is, number_is, postfix_is, text_is, type_sized_is, unary_is}
 
 -- ---- as operands
@@ -113,8 +113,13 @@ row_aimed : (s : Scope) {m : _} (r : Row_of-TTarget m) → Every (IsAimed s) (it
 row_aimed s end_of-TTarget h = tt
 row_aimed s (more_of-TTarget x r) h = (h.0, row_aimed s r h.1)
 
-parts_aimed : (s : Scope) (xs : List TTarget) → Every (IsAimed s) xs → IsAimed s (all_parts xs)
-parts_aimed s xs h = (sym (ap ty.Tuple (target_types_are xs)), row_aimed s (hidden-the_row-TTarget-5 xs) (subst (Every (IsAimed s)) (sym (items_hidden-the_row-TTarget-5 xs)) h))
+parts_aimed : (s : Scope) (xs : List TTarget) → rule_18_tuple (rows s) (target_types xs) ≡ true → Every (IsAimed s) xs → IsAimed s (all_parts xs)
+parts_aimed s xs small h =
+    (sym (ap ty.Tuple (target_types_are xs)), (small, row_aimed s (hidden-the_row-TTarget-5 xs) (subst (Every (IsAimed s)) (sym (items_hidden-the_row-TTarget-5 xs)) h)))
+
+small_target_is : (s : Scope) (at : Place) (xs : List TTarget) → Every (IsAimed s) xs → IfGood (small_target (rows s) at xs) (IsAimed s)
+unfolding small_target
+small_target_is s at xs h = asked (IsAimed s) 18 at (rule_18_tuple (rows s) (target_types xs)) (all_parts xs) (λ q. parts_aimed s xs q h)
 
 targets_of : (s : Scope) (at : Place) (ns : List Node) (ts : List Ty) → Every (IsNode s) ns → each_passed (rows s) ts ≡ true → IfGood (targets at ns ts) (Every (IsAimed s))
 unfolding targets
@@ -127,26 +132,26 @@ targets_of s at (n ∷ ns) (t ∷ ts) h k =
     both_hold (IsAimed s) (Every (IsAimed s)) (Every (IsAimed s)) (n.target true at t) (targets at ns ts) (λ x xs. Good (x ∷ xs))
     (h.0.target true at t here.0 here.1) (targets_of s at ns ts h.1 both.1) (λ x xs u v. (u, v))
 
-tuple_aim_is : (s : Scope) (ns : List Node) → Every (IsNode s) ns → (is_part : Bool) (at : Place) (t : Ty) → is_sound (rows s) t ≡ true → IfGood (tuple_aim ns is_part at t) (IsAimed s)
+tuple_aim_is : (s : Scope) (ns : List Node) → Every (IsNode s) ns → (is_part : Bool) (at : Place) (t : Ty) → is_sound (rows s) t ≡ true → IfGood (tuple_aim (rows s) ns is_part at t) (IsAimed s)
 unfolding tuple_target
 tuple_aim_is s ns h is_part at t o = on (parts_of t) refl
   where
-    on : (p : Option (List Ty)) → parts_of t ≡ p → IfGood (tuple_target at ns p) (IsAimed s)
+    on : (p : Option (List Ty)) → parts_of t ≡ p → IfGood (tuple_target (rows s) at ns p) (IsAimed s)
     on None e = tt
     on (Some ts) e =
-        after (Every (IsAimed s)) (IsAimed s) (targets at ns ts) (λ xs. Good (all_parts xs))
+        after (Every (IsAimed s)) (IsAimed s) (targets at ns ts) (small_target (rows s) at)
         (targets_of s at ns ts h (tuple_parts (rows s) ts (sym (ap (is_sound (rows s)) (tuple_is t ts e)) ∙ o)))
-        (λ xs k. parts_aimed s xs k)
+        (λ xs k. small_target_is s at xs k)
 
 -- ---- assignments
 
-assigned_to_is : (s : Scope) (at : Place) (t : TTarget) (x : Operand) → IsAimed s t → is_small_target (rows s) t ≡ true → IsOperand s x → IfGood (assigned_to at t x) (IsUsable s)
+assigned_to_is : (s : Scope) (at : Place) (t : TTarget) (x : Operand) → IsAimed s t → IsOperand s x → IfGood (assigned_to at t x) (IsUsable s)
 unfolding assigned_to
-assigned_to_is s at t x a k o =
+assigned_to_is s at t x a o =
     asked (IsUsable s) 33 at (rule_33_converts x (target_type t)) (leaves.assign t x.value)
     (λ q.
     let c = operand_converts s x (target_type t) o q in
-    let r = aimed_is s t (type_of x.value) a k c o.usable.sound o.usable.whole in
+    let r = aimed_is s t (type_of x.value) a c o.usable.sound o.usable.whole in
     let e = converted_is s (target_type t) x.value o.usable r.1 c in
     record {
       value = rw (IsValue-Assign s (target_type t) t (converted (target_type t) x.value)) ((e_whole s t x e, (r.0, (refl, (e.usable.value, e.is)))));
@@ -189,7 +194,7 @@ called_is s env e at ns (callee.Function returns number receiver parameters) h c
     (arguments_are s at parameters (map (operand_of env) ns) c.types.passed (operands_of s env e ns h))
     (λ es a. record {
       value = rw (IsValue-Call s returns number receiver es)
-          ((c.function, (c.is, (c.returned, (c.given, (given_by s receiver c.given c.is_given, (a.values, rw a.types c.taken)))))));
+          ((c.given, (given_by s receiver c.given c.is_given, (a.values, rw a.types c.takes))));
       sound = c.types.sound;
       whole = c.types.whole;
     })
@@ -217,20 +222,17 @@ compound_is s at how f x h o =
 -- ---- assignments of each form
 
 assignment_is : (s : Scope) (env : Environment) → env.aggregates ≡ rows s → (at : Place) (op : AssignOp) (a b : Node) → IsNode s a → IsNode s b
-    → (op ≡ assign.Assign → IfGood (operand_of env b) (λ x. IfGood (a.target false at (type_of x.value)) (λ t. is_small_target (rows s) t ≡ true)))
     → IfGood (assignment env at op a b) (IsTyped s)
 unfolding assignment assigned
-assignment_is s env e at assign.Assign a b h k small =
-    after (λ x. IsOperand s x × IfGood (a.target false at (type_of x.value)) (λ t. is_small_target (rows s) t ≡ true)) (IsTyped s) (operand_of env b) _
-    (both_of (IsOperand s) _ (operand_of env b) (operand_of_is s env e b k) (small refl))
-    (λ x o. after (λ t. IsAimed s t × (is_small_target (rows s) t ≡ true)) (IsTyped s) (a.target false at (type_of x.value)) _
-    (both_of (IsAimed s) _ (a.target false at (type_of x.value)) (h.target false at (type_of x.value) o.0.usable.sound o.0.usable.whole) o.1)
-    (λ t q. also (IsUsable s) (IsTyped s) (assigned_to at t x) (assigned_to_is s at t x q.0 q.1 o.0) (λ d u. usable_typed s d u)))
-assignment_is s env e at (assign.Compound how) a b h k small =
+assignment_is s env e at assign.Assign a b h k =
+    after (IsOperand s) (IsTyped s) (operand_of env b) _ (operand_of_is s env e b k)
+    (λ x o. after (IsAimed s) (IsTyped s) (a.target false at (type_of x.value)) _ (h.target false at (type_of x.value) o.usable.sound o.usable.whole)
+    (λ t q. also (IsUsable s) (IsTyped s) (assigned_to at t x) (assigned_to_is s at t x q o) (λ d u. usable_typed s d u)))
+assignment_is s env e at (assign.Compound how) a b h k =
     after (λ (p : Found × Operand). IsFound s p.0 × IsOperand s p.1) (IsTyped s) (pair a.found (operand_of env b)) _
     (paired (IsFound s) (IsOperand s) a.found (operand_of env b) h.found (operand_of_is s env e b k))
     (λ p q. subst (λ rs. IfGood (compound rs at how p.0 p.1) (IsTyped s)) (sym e) (compound_is s at how p.0 p.1 q.0 q.1))
-assignment_is s env e at assign.Send a b h k small =
+assignment_is s env e at assign.Send a b h k =
     after (λ (p : Operand × Operand). IsOperand s p.0 × IsOperand s p.1) (IsTyped s) (pair (operand_of env a) (operand_of env b)) _
     (paired (IsOperand s) (IsOperand s) (operand_of env a) (operand_of env b) (operand_of_is s env e a h) (operand_of_is s env e b k))
     (λ p q. sent_is s at p.0 p.1 q.0 q.1)
@@ -254,15 +256,9 @@ address_fit : (s : Scope) (env : Environment) (here : Here) (at : Place) (op : P
 address_fit s env here at prefix.Address a k = also (IsShared s) (λ f. prefix.Address ≡ prefix.Address → IsShared s f) a.found k (λ f q e. q)
 address_fit s env here at op a k = where_good (λ f. op ≡ prefix.Address → IsShared s f) a.found (λ f q e. absurd (cc))
 
--- where a value is assigned
-assign_fit : (s : Scope) (env : Environment) (here : Here) (at : Place) (op : AssignOp) (a b : Node) → IsFit s env here (Expr-F.Assign at op a b)
-    → op ≡ assign.Assign → IfGood (operand_of env b) (λ x. IfGood (a.target false at (type_of x.value)) (λ t. is_small_target (rows s) t ≡ true))
-assign_fit s env here at assign.Assign a b k e = k
-assign_fit s env here at op a b k e = absurd (cc)
-
 pub step_is : (s : Scope) (env : Environment) (here : Here) → Tells s env here → (z : Expr-F Node) → EachPart (IsNode s) z → IsFit s env here z → IsNode s (step env here z)
-step_is s env here t (Expr-F.Number at n) h k = plain_node_is s env t.aggregates at (Good (number n)) (number_is s n k)
-step_is s env here t (Expr-F.Char at n) h k = plain_node_is s env t.aggregates at (Good (character n)) (character_is s n k)
+step_is s env here t (Expr-F.Number at n) h k = plain_node_is s env t.aggregates at (Good (number n)) (number_is s n)
+step_is s env here t (Expr-F.Char at n) h k = plain_node_is s env t.aggregates at (Good (character n)) (character_is s n)
 step_is s env here t (Expr-F.Text at bytes) h k =
     let p = plain_node_is s env t.aggregates at (text_found at (number_at here.texts at)) (text_is s at (number_at here.texts at) k) in
     record { found = p.found; target = p.target; callee = p.callee }
@@ -273,11 +269,14 @@ step_is s env here t (Expr-F.Name at name) h k =
     let p = plain_node_is s env t.aggregates at (named env here at) (declared_is s env here t at (declaration_at env.scopes.names at) k) in
     record { found = p.found; target = p.target; callee = declared_callee_is s env here t at (declaration_at env.scopes.names at) k }
 step_is s env here t (Expr-F.Tuple at parts) h k =
-    let p = plain_node_is s env t.aggregates at (and_then (columns (map (operand_of env) parts)) (λ c. Good (tuple c)))
-    (after (λ c. AreColumns s c × (is_small (rows s) (ty.Tuple c.types) ≡ true)) (IsFound s) (columns (map (operand_of env) parts)) _
-    (both_of (AreColumns s) _ (columns (map (operand_of env) parts)) (columns_are s (map (operand_of env) parts) (operands_of s env t.aggregates parts h)) k)
-    (λ c a. columns_tuple s c a.0 a.1)) in
-    record { found = p.found; target = λ is_part by u o w. tuple_aim_is s parts h is_part by u o; callee = p.callee }
+    let p = plain_node_is s env t.aggregates at (and_then (columns (map (operand_of env) parts)) (small_tuple env.aggregates at))
+    (after (AreColumns s) (IsFound s) (columns (map (operand_of env) parts)) _ (columns_are s (map (operand_of env) parts) (operands_of s env t.aggregates parts h))
+    (λ c a. subst (λ rs. IfGood (small_tuple rs at c) (IsFound s)) (sym t.aggregates) (small_tuple_is s at c a))) in
+    record {
+      found = p.found;
+      target = λ is_part by u o w. subst (λ rs. IfGood (tuple_aim rs parts is_part by u) (IsAimed s)) (sym t.aggregates) (tuple_aim_is s parts h is_part by u o);
+      callee = p.callee;
+    }
 step_is s env here t (Expr-F.Unary at op a) h k =
     plain_node_is s env t.aggregates at (and_then a.found (unary env.aggregates at op a.at))
     (after (λ f. IsFound s f × (op ≡ prefix.Address → IsShared s f)) (IsFound s) a.found _ (both_of (IsFound s) _ a.found h.found (address_fit s env here at op a k))
@@ -318,7 +317,7 @@ step_is s env here t (Expr-F.Binary at op a b) h k =
     (λ p q. subst (λ rs. IfGood (binary rs at op p.0 p.1) (IsUsable s)) (sym t.aggregates) (binary_is op s at p.0 p.1 q.0 q.1))))
 step_is s env here t (Expr-F.Iterator at a b) h k = plain_node_is s env t.aggregates at (iterator_found at (number_at here.iterators at)) (iterator_is s at (number_at here.iterators at) k)
 step_is s env here t (Expr-F.Assign at op a b) h k =
-    plain_node_is s env t.aggregates at (gives (assignment env at op a b)) (gives_typed s (assignment env at op a b) (assignment_is s env t.aggregates at op a b h.0 h.1 (assign_fit s env here at op a b k)))
+    plain_node_is s env t.aggregates at (gives (assignment env at op a b)) (gives_typed s (assignment env at op a b) (assignment_is s env t.aggregates at op a b h.0 h.1))
 step_is s env here t (Expr-F.Sequence at ns) h k =
     plain_node_is s env t.aggregates at (gives (and_then (each (map (dropped_of env) ns)) (sequenced at)))
     (gives_typed s _ (after (Every (IsTyped s)) (IsTyped s) (each (map (dropped_of env) ns)) (sequenced at) (each_is (IsTyped s) (map (dropped_of env) ns) (dropped_each s env t.aggregates ns h))

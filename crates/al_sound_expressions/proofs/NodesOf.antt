@@ -1,8 +1,11 @@
 -- Nodes with parts that are known.
-use Rattle.std.proofs.Common.{◌≡◌, ℕ, ◌<◌, ◌^◌, Bool, true, false, length, Option, Some, None, refl, sym, ap, ◌∙◌, subst, inl, arith}
+use Rattle.std.proofs.Common.{◌≡◌, ℕ, ◌<◌, ◌≤◌, ◌^◌, Bool, true, false, Option, Some, None, refl, sym, ap, ◌∙◌, subst, inl, arith}
 use Rattle.std.specs.Prelude.{◌==◌, nat_lt, if◌then◌else◌}
+use Rattle.std.proofs.Math.Nat.{mod-le}
 use Rattle.std.proofs.lemmas.Bool.{eqb-true, ltb-true}
-use Rattle.al_base.specs.Arith.{width_of}
+use Rattle.std.proofs.lemmas.Nat.{mod_below}
+use Rattle.al_base.specs.Arith.{bits_in, width_of}
+use Rattle.al_base.specs.declared.arith.Kind.{Kind}
 use Rattle.al_base.specs.declared.arith.Kind.TheVariants as kind
 use Rattle.al_base.specs.declared.place.Place.{Place}
 use Rattle.al_rules.specs.Outcome.{Outcome, Good, and_then}
@@ -21,7 +24,7 @@ use Rattle.al_typed.specs.declared.expression.TExpr.{TExpr}
 use Rattle.al_typed.specs.declared.expression.TExpr.TheVariants as expr
 use Rattle.al_typed.specs.declared.expression.TPlace.{TPlace}
 use Rattle.al_typed.specs.Types.{byte_pointer, int, is_void, is_void_at, void_pointer}
-use Rattle.al_typed.specs.WellTyped.{Scope, is_sound, rows}
+use Rattle.al_typed.specs.WellTyped.{Scope, is_sound, rows, strings_of}
 use Rattle.al_typed.proofs.ValueRules.{IsValue-Constant, IsValue-Iterator, IsValue-Nil, IsValue-Text}
 use Rattle.al_convert.specs.declared.literal.Literal.TheVariants as literal
 use Rattle.al_convert.specs.Same.{is_of_kind, is_of_kind_at, passes}
@@ -64,15 +67,18 @@ is_at_is s o h = after (IsOpenPlace s) (IsFound s) o (λ p. Good (place_of p)) h
 
 -- ---- leaves
 
-value_room : (n : ℕ) → n < 2 ^ 64 → n < 2 ^ width_of (kind_of_value n)
-value_room n h = on (nat_lt n (2 ^ 31)) (nat_lt n (2 ^ 32)) (nat_lt n (2 ^ 63)) refl refl refl
+value_room : (n bits : ℕ) → bits ≤ n → bits < 2 ^ 64 → bits < 2 ^ width_of (kind_of_value n)
+value_room n bits l h = on (nat_lt n (2 ^ 31)) (nat_lt n (2 ^ 32)) (nat_lt n (2 ^ 63)) refl refl refl
   where
     on : (a b c : Bool) → nat_lt n (2 ^ 31) ≡ a → nat_lt n (2 ^ 32) ≡ b → nat_lt n (2 ^ 63) ≡ c
-        → n < 2 ^ width_of (if a then kind.Int else (if b then kind.Uint else (if c then kind.Lint else kind.Ulint)))
-    on true b c p q r = omega (arith, ltb-true n (2 ^ 31) p)
-    on false true c p q r = ltb-true n (2 ^ 32) q
+        → bits < 2 ^ width_of (if a then kind.Int else (if b then kind.Uint else (if c then kind.Lint else kind.Ulint)))
+    on true b c p q r = omega (arith, l, ltb-true n (2 ^ 31) p)
+    on false true c p q r = omega (arith, l, ltb-true n (2 ^ 32) q)
     on false false true p q r = h
     on false false false p q r = h
+
+byte_room : (bits : ℕ) → bits < 2 ^ 8 → bits < 2 ^ width_of kind.Int
+byte_room bits h = omega (arith, h)
 
 int_type : is_of_kind kind.Int (ty.Integer kind.Int) ≡ true
 unfolding is_of_kind
@@ -86,21 +92,23 @@ zero_has_type n = on (n == 0) refl
     on true e = has_type-Zero (ty.Integer (kind_of_value n)) ∙ ap (λ m. is_of_kind kind.Int (ty.Integer (kind_of_value m))) (eqb-true n 0 e) ∙ int_type
     on false e = has_type-Other (ty.Integer (kind_of_value n))
 
-pub number_is : (s : Scope) (n : ℕ) → n < 2 ^ 64 → IsFound s (number n)
+constant_usable : (s : Scope) (k : Kind) (bits : ℕ) → bits < 2 ^ width_of k → IsUsable s (expr.Constant (ty.Integer k) bits)
+constant_usable s k bits h =
+    integer_usable s k (expr.Constant (ty.Integer k) bits) (rw (IsValue-Constant s (ty.Integer k) bits) ((k, (refl, h)))) refl
+
+pub number_is : (s : Scope) (n : ℕ) → IsFound s (number n)
 unfolding number
-number_is s n h = record {
-  typed = usable_typed s (expr.Constant (ty.Integer (kind_of_value n)) n)
-      (integer_usable s (kind_of_value n) (expr.Constant (ty.Integer (kind_of_value n)) n)
-      (rw (IsValue-Constant s (ty.Integer (kind_of_value n)) n) ((kind_of_value n, (refl, value_room n h)))) refl);
+number_is s n = record {
+  typed = usable_typed s (expr.Constant (ty.Integer (kind_of_value n)) (bits_in 64 n))
+      (constant_usable s (kind_of_value n) (bits_in 64 n) (value_room n (bits_in 64 n) (mod-le n (2 ^ 64)) (mod_below n (2 ^ 64) (omega arith))));
   written = zero_has_type n;
 }
 
-pub character_is : (s : Scope) (n : ℕ) → n < 2 ^ 8 → IsFound s (character n)
+pub character_is : (s : Scope) (n : ℕ) → IsFound s (character n)
 unfolding character
-character_is s n h =
-    usable_found s (expr.Constant int n) (integer_usable s kind.Int (expr.Constant int n) (rw (IsValue-Constant s int n) ((kind.Int, (refl, omega (arith, h))))) refl)
+character_is s n = usable_found s (expr.Constant int (bits_in 8 n)) (constant_usable s kind.Int (bits_in 8 n) (byte_room (bits_in 8 n) (mod_below n (2 ^ 8) (omega arith))))
 
-pub text_is : (s : Scope) (at : Place) (o : Option ℕ) → ((n : ℕ) → o ≡ Some n → n < length s.program.strings) → IfGood (text_found at o) (IsFound s)
+pub text_is : (s : Scope) (at : Place) (o : Option ℕ) → ((n : ℕ) → o ≡ Some n → n < strings_of s.names) → IfGood (text_found at o) (IsFound s)
 unfolding text_found
 text_is s at None h = tt
 text_is s at (Some n) h = usable_found s (expr.Text byte_pointer n) (record {

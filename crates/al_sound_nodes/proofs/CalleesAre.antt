@@ -31,7 +31,7 @@ use Rattle.al_type_nodes.specs.Members.{aggregate_of, arrow, dot, function_in}
 use Rattle.al_type_nodes.specs.Calls.{arrow_receiver, dot_receiver, object, operand_receiver, place_object, place_receiver, pointer_object, pointer_receiver, value_object, value_receiver}
 use Rattle.al_type_calls.specs.Callees.{arrow_callee, arrow_member, arrow_method, arrowed, callee_as, declared_callee, defined_callee, dot_callee, dot_member, dot_method, dotted, found_callee, found_type, function_called, function_callee, method_callee, method_called, pointed_callee, pointer_callee, value_callee, variable_callee}
 use Rattle.al_sound_operators.specs.Typed.{IfGood, IsOperand, IsTyped, IsUsable}
-use Rattle.al_sound_nodes.specs.Nodes.{Calls, IsFound, IsReached, Tells}
+use Rattle.al_sound_nodes.specs.Nodes.{Calls, IsFound, IsFunctionOf, IsReached, Tells}
 use Rattle.al_sound_nodes.specs.Callees.{CalleesAreSound, HasTypes, IsCallee, IsGivenBy, IsNamedCallee}
 use Rattle.al_sound_operators.proofs.TypeForms.{function_is, pointer_is, there}
 use Rattle.al_sound_operators.proofs.SoundTypes.{sound-Pointer}
@@ -49,21 +49,18 @@ called_is : (s : Scope) (f : Signature) (number : ℕ) (r : Option TReceiver) (g
     → IsNamedCallee s f.returns (number_of f) r f.parameters
 called_is s f number r given e c g = record {
   types = types_are s f number given c;
-  function = c.function;
-  is = rw (number_is f number e) c.is;
-  returned = c.returns;
   given = given;
   is_given = g;
-  taken = c.parameters;
+  takes = rw (number_is f number e) c.takes;
 }
 
-function_callee_is : (s : Scope) (at : Place) (o : Option Signature) → ((number : ℕ) (f : Signature) → o ≡ Some f → f.number ≡ Some number → Calls s f number [])
+function_callee_is : (s : Scope) (at : Place) (o : Option Signature) → ((number : ℕ) (f : Signature) → o ≡ Some f → f.number ≡ Some number → IsFunctionOf s f number)
     → IfGood (function_callee at o) (IsCallee s)
 unfolding function_callee defined_callee rule_5_is_defined
 function_callee_is s at None h = tt
 function_callee_is s at (Some f) h =
     asked (IsCallee s) 5 at (rule_5_is_defined f) (function_called f)
-    (λ q. let n = there f.number q in called_is s f n.0 None [] n.1 (h n.0 f refl n.1) refl)
+    (λ q. let n = there f.number q in called_is s f n.0 None [] n.1 (h n.0 f refl n.1).calls refl)
 
 -- ---- pointers
 

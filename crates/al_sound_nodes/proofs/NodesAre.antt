@@ -1,5 +1,5 @@
 -- Names, members and their uses.
-use Rattle.std.proofs.Common.{◌≡◌, ℕ, ◌<◌, ◌^◌, Bool, true, false, ◌&&◌, List, [], ◌∷◌, Option, Some, None, refl, sym, ap, ap₂, ◌∙◌, subst, inl, inr}
+use Rattle.std.proofs.Common.{◌≡◌, ℕ, ◌<◌, ◌^◌, Bool, true, false, ◌&&◌, List, [], ◌∷◌, Option, Some, None, refl, sym, ap, ◌∙◌, subst, inl, inr}
 use Rattle.std.proofs.lemmas.List.Elements.{All-cons, All-head, All-nil, All-tail}
 use Rattle.std.specs.Prelude.{◌⊎◌, ◌||◌, not, All, slice_get, option_and_then}
 use Rattle.std.specs.Option.{unwrap_or}
@@ -44,7 +44,7 @@ use Rattle.al_type_nodes.specs.Uses.{address_of, addressed, dropped, loaded_oper
 use Rattle.al_type_nodes.specs.Names.{constant_found, declared, declared_as, defined_function, function_found, function_value, global_found, integer_found, local_found, number_of, outer_found, round_found}
 use Rattle.al_type_nodes.specs.Members.{aggregate_at, aggregate_of, arrow, arrow_value, dot, dot_operand, dot_place, dot_value, function_in, member_behind, member_in, member_of_place, member_of_value, place_dot, place_member, pointed_member, value_arrow, value_dot, value_member, whole}
 use Rattle.al_sound_operators.specs.Typed.{IfGood, IsFoundValue, IsOperand, IsSoundPlace, IsTyped, IsUsable, has_type}
-use Rattle.al_sound_nodes.specs.Nodes.{Calls, IsFound, IsGlobalOf, IsLocalPlace, IsShared, NodesAreSound, Tells, is_passed, IsReached}
+use Rattle.al_sound_nodes.specs.Nodes.{IsFound, IsFunctionOf, IsGlobalOf, IsLocalPlace, IsShared, NodesAreSound, Tells, is_passed, IsReached}
 use Rattle.al_sound_operators.proofs.TypeForms.{pointer_is, some_is, there}
 use Rattle.al_sound_operators.proofs.SameTypes.{and_both}
 use Rattle.al_sound_operators.proofs.SoundTypes.{sound-Pointer, whole-Pointer}
@@ -190,18 +190,17 @@ function_parts rows t ts h =
 pub number_is : (f : Signature) (number : ℕ) → f.number ≡ Some number → number_of f ≡ number
 number_is f number e = ap (λ o. unwrap_or o 0) e
 
-function_value_is : (s : Scope) (f : Signature) (number : ℕ) → f.number ≡ Some number → Calls s f number [] → IsFound s (function_value f)
+function_value_is : (s : Scope) (f : Signature) (number : ℕ) → f.number ≡ Some number → IsFunctionOf s f number → IsFound s (function_value f)
 function_value_is s f number e c =
     let t : Ty = ty.Pointer (ty.Function f.returns f.parameters) in
     usable_found s (expr.Function t (number_of f))
     (record {
-      value = rw (IsValue-Function s t (number_of f))
-          ((c.function, (rw (number_is f number e) c.is, ap₂ (λ (u : Ty) (us : List Ty). ty.Pointer (ty.Function u us)) c.returns (sym c.parameters))));
-      sound = sound-Pointer (rows s) (ty.Function f.returns f.parameters) ∙ sound-Function (rows s) f.returns f.parameters c.sound c.whole c.passed;
+      value = rw (IsValue-Function s t (number_of f)) (rw (number_is f number e) c.value);
+      sound = sound-Pointer (rows s) (ty.Function f.returns f.parameters) ∙ sound-Function (rows s) f.returns f.parameters c.calls.sound c.calls.whole c.calls.passed;
       whole = whole-Pointer (rows s) (ty.Function f.returns f.parameters);
     })
 
-function_found_is : (s : Scope) (at : Place) (o : Option Signature) → ((number : ℕ) (f : Signature) → o ≡ Some f → f.number ≡ Some number → Calls s f number [])
+function_found_is : (s : Scope) (at : Place) (o : Option Signature) → ((number : ℕ) (f : Signature) → o ≡ Some f → f.number ≡ Some number → IsFunctionOf s f number)
     → IfGood (function_found at o) (IsFound s)
 unfolding function_found defined_function rule_5_is_defined
 function_found_is s at None h = tt
