@@ -1,5 +1,5 @@
 -- Statements are well typed among any names of sound types, where the types are sound that are written in them.
-use Rattle.std.proofs.Common.{◌≡◌, ℕ, zero, suc, ◌+◌, ◌<◌, Bool, true, false, List, [], ◌∷◌, ◌++◌, map, length, Option, Some, None, sym, ◌∙◌, subst}
+use Rattle.std.proofs.Common.{◌≡◌, ℕ, zero, suc, ◌+◌, ◌<◌, Bool, true, false, List, [], ◌∷◌, ◌++◌, map, length, Option, Some, None, refl, sym, ◌∙◌, subst}
 use Rattle.std.specs.Prelude.{All, Contains, find, if◌then◌else◌, option_map, slice_get}
 use Rattle.std.specs.List.{flat_map}
 use Rattle.std.proofs.lemmas.List.Elements.{All-head, All-tail, Contains-append_right}
@@ -31,7 +31,7 @@ use Rattle.al_type_nodes.specs.declared.found.Found.{Found}
 use Rattle.al_type_expr.specs.Nodes.{found}
 use Rattle.al_type_stmt.specs.declared.within.Within.{Within}
 use Rattle.al_type_stmt.specs.declared.within.Choice.TheVariants as choice
-use Rattle.al_type_stmt.specs.Iterators.{iterators, numbered, with_iterators}
+use Rattle.al_type_stmt.specs.Iterators.{iterators, with_iterators}
 use Rattle.al_type_stmt.specs.Statements.{Part, part, part_step}
 use Rattle.al_sound_operators.specs.Typed.{IfGood, IsSoundPlace}
 use Rattle.al_sound_nodes.specs.Nodes.{IsReached, IsShared, Tells}
@@ -142,7 +142,7 @@ module _ (law : Laws) (rows : List AggregateRow) (strings functions : ℕ) (w : 
         record {
           outside = expr_fits e h;
           inside = expression_fits (with_count Own count) env inner (are_there rows strings functions count env inner texts around (numbers_are_below env here e)) e
-              (every_also Sound (IsSoundWritten (with_count Own count) env inner) (λ t k u q. k u (sym (written_same env here (numbered 0 ss) t) ∙ q)) (expr_types e) h);
+              (every_also Sound (IsSoundWritten (with_count Own count) env inner) (λ t k u q. k u (written_same env here inner refl t ∙ q)) (expr_types e) h);
         }
 
     optional_fits : (e : Option Expr) → Every Sound (optional_types e) → IfThere Fit e

@@ -1,5 +1,5 @@
 -- The types that are written in a body, and what is gathered of it.
-use Rattle.std.proofs.Common.{◌≡◌, ℕ, Bool, true, false, List, [], ◌∷◌, ◌++◌, map, Option, Some, None, refl, sym, subst, arith}
+use Rattle.std.proofs.Common.{◌≡◌, ℕ, Bool, true, false, List, [], ◌∷◌, ◌++◌, map, Option, Some, None, refl, sym, ◌∙◌, subst, arith}
 use Rattle.std.specs.Prelude.{Contains, if◌then◌else◌}
 use Rattle.std.specs.List.{flat_map}
 use Rattle.std.proofs.lemmas.List.Elements.{Contains-append_left, Contains-append_right}
@@ -31,6 +31,7 @@ use Rattle.al_sound_statements.specs.Bodies.{all_types, each_types, expr_types, 
 use Rattle.al_sound_statements.specs.Gathered.{BreaksNone, TypesAreGathered}
 use Rattle.al_sound_operators.proofs.OperatorKinds.{not_true}
 use Rattle.al_sound_statements.proofs.StatementLists.{every_also, every_append, every_at}
+use Rattle.al_sound_statements.proofs.WrittenTypes.{written_same}
 
 -- ---- lists
 
@@ -361,4 +362,7 @@ module _ (env : Environment) (here : Here) where
   among_types x t c = every_at (IsAmong (parts env here x).types) (types_in x) t (body_adds x).met c
 
 pub types_are_gathered : TypesAreGathered
-types_are_gathered = record { faults = free_of_faults; types = among_types }
+types_are_gathered = record {
+  faults = free_of_faults;
+  types = λ env here there e tree t c u q. among_types env there tree t c u (sym (written_same env here there e t) ∙ q);
+}

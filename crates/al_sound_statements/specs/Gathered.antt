@@ -18,6 +18,6 @@ BreaksNone env here t = (faults_in env here t ≡ []) × (rule_18_size env.aggre
 pub record TypesAreGathered : Type 0 where
   -- where what is gathered of a body breaks no rule
   pub faults : (env : Environment) (here : Here) (tree : Stmt) → (parts env here tree).faults ≡ [] → (t : TypeTree) → Contains (types_in tree) t → BreaksNone env here t
-  -- what has a meaning
-  pub types : (env : Environment) (here : Here) (tree : Stmt) (t : TypeTree) → Contains (types_in tree) t → (u : Ty) → written env here t ≡ Some u
-      → Contains (parts env here tree).types u
+  -- What has a meaning. That hangs on the own adt alone of what is at hand.
+  pub types : (env : Environment) (here there : Here) → here.own ≡ there.own → (tree : Stmt) (t : TypeTree) → Contains (types_in tree) t
+      → (u : Ty) → written env here t ≡ Some u → Contains (parts env there tree).types u
