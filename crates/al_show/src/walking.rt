@@ -2,10 +2,9 @@
 ghost use Rattle.std.specs.Prelude.{◌≡◌, ◌≤◌, [], length, IfOk, IfErr};
 ghost use Rattle.al_region.specs.Region.{IsRegionSize};
 ghost use Rattle.al_typed.specs.Layout.{IsLaidOut};
-ghost use Rattle.al_typed.specs.Measures.{IsWithin};
-ghost use Rattle.al_typed.specs.Sound.{HasSoundTypes, IsShort};
 ghost use Rattle.al_counts.specs.Counts.{most_entries};
 ghost use Rattle.al_step.specs.Sources.{Stands, IsSound};
+ghost use Rattle.al_show.specs.Room.{HasRoom};
 ghost use Rattle.al_show.specs.Walks.{GoesOn, StopsHere, GoesAlong, StopsAlong, Stops, StopsShow, IsShown};
 
 use al_base::NoMemory;
@@ -120,11 +119,11 @@ impl From<NoMemory> for ShowStop {
     }
 }
 
-/// The text of the source world of a program, whose types are sound and which is short and within the limits, after these entries.
+/// The text of the source world of a program after these entries, where no number on the way lacks room.
+#[tactic(auto, using(crate::proofs::Room::never_stops))]
 pub fn shown(alloc: Global, p: &Program, region: u32, entries: &[Entry]) -> Result<Bytes, ShowStop>
-    requires sound { HasSoundTypes p.now }
-    requires within { IsWithin p.now }
-    requires short { IsShort p.now }
+    requires laid_out { IsLaidOut p.now.aggregates }
+    requires room { HasRoom p.now }
     requires region { IsRegionSize region }
     requires few { length entries.now ≤ most_entries }
     ensures shown { IfOk result (IsShown p.now region entries.now) }

@@ -1,7 +1,8 @@
 -- The mode `step`: from what its stages say to why it ends as it does.
 use Rattle.std.proofs.Common.{◌≡◌, ℕ, ◌+◌, ◌^◌, ◌≤◌, List, length, take, Option, Some, None, Result, Ok, Err, refl, sym, ap, ◌∙◌, subst, arith, inl, inr}
 use Rattle.std.specs.Prelude.{◌⊎◌, IfOk}
-use Rattle.std.proofs.lemmas.List.{take_all}
+use Rattle.std.proofs.Math.Nat.{min-le_right}
+use Rattle.std.proofs.lemmas.List.{length-take, take_all}
 use Rattle.al_event.specs.declared.entry.Entry.{Entry}
 use Rattle.al_host.specs.Outside.{Content, Faulted, text_under}
 use Rattle.al_words.specs.declared.job.Job.{Job}
@@ -14,11 +15,13 @@ use Rattle.al_front.specs.declared.refused.FrontStop.{FrontStop}
 use Rattle.al_front.specs.declared.refused.FrontStop.TheVariants as stop
 use Rattle.al_show.specs.declared.walking.ShowStop.{ShowStop}
 use Rattle.al_show.specs.declared.walking.ShowStop.TheVariants as show
+use Rattle.al_counts.specs.Counts.{most_entries}
+use Rattle.al_show.specs.Room.{HasRoom}
 use Rattle.al_show.specs.Walks.{StopsShow}
 use Rattle.alef_run.specs.Call.{Call, IsRead, DidNothing, HostFails, LacksText, text_in}
 use Rattle.alef_run.specs.CheckMode.{most_of_text}
 use Rattle.alef_run.specs.Load.{KeepsTexts, LacksBytes, IsScheduleRead, LacksSchedule}
-use Rattle.alef_run.specs.StepMode.{EndsStep, EndsShow, HasText, HasBoth, HasNoSchedule, MadeNothing, IsProgramRead, IsFound, MayBeShown, bytes_of_region, first_of, made_of, end_of_show}
+use Rattle.alef_run.specs.StepMode.{EndsStep, EndsShow, HasText, HasBoth, HasNoSchedule, MadeNothing, IsProgramRead, IsFound, bytes_of_region, first_of, made_of, end_of_show}
 use Rattle.alef_run.specs.declared.report.End.{End}
 use Rattle.alef_run.specs.declared.report.End.TheVariants.{Ran, Made, Words, ReadFault, Refused, BadImage, BadSchedule, BadEntry, BadNumber, WriteFault, NoMemory}
 use Rattle.al_sound_texts.proofs.Texts.{accepted_is_sound}
@@ -62,10 +65,14 @@ module _ (file : List ℕ) (told told_after : Option Content) (faults faults_aft
 
 -- ---- what may be shown
 
--- that of each text that is accepted within the limits may be shown
-pub found_fits : (text : List ℕ) (found : Result Program FrontStop) → IfOk found (λ p. IsAccepted text p × IsWithin p) → IfOk found MayBeShown
-found_fits text (Ok p) h = let laws = accepted_is_sound text p h.0 in record { sound = laws.0; within = h.1; short = laws.1 }
-found_fits text (Err stop) h = h
+-- no number lacks room in runs of the program of a text that is accepted within the limits
+pub found_has_room : (text : List ℕ) (found : Result Program FrontStop) → IfOk found (λ p. IsAccepted text p × IsWithin p) → IfOk found HasRoom
+found_has_room text (Ok p) h = let laws = accepted_is_sound text p h.0 in record { sound = laws.0; within = h.1; short = laws.1 }
+found_has_room text (Err stop) h = h
+
+-- the first of few entries are few
+pub few_taken : (n : ℕ) (h : List Entry) → length h ≤ most_entries → length (take n h) ≤ most_entries
+few_taken n h few = let all = length-take n h in let least = min-le_right n (length h) in omega (arith, all, least, few)
 
 -- ---- what is shown
 

@@ -6,7 +6,6 @@ use Rattle.al_words.specs.declared.job.Job.{Job}
 use Rattle.al_typed.specs.declared.program.Program.{Program}
 use Rattle.al_typed.specs.Layout.{IsLaidOut}
 use Rattle.al_typed.specs.Measures.{IsWithin}
-use Rattle.al_typed.specs.Sound.{HasSoundTypes, IsShort}
 use Rattle.al_front.specs.Accepted.{IsAccepted, IsRefused as IsTextRefused}
 use Rattle.al_front.specs.declared.refused.FrontStop.{FrontStop}
 use Rattle.al_front.specs.declared.refused.FrontStop.TheVariants as front
@@ -117,12 +116,6 @@ EndsStep job call Words = ⊥
 EndsStep job call (BadImage fault) = ⊥
 
 -- ---- stages
-
--- a program each run of which has numbers that have room in words
-pub record MayBeShown (p : Program) : Type 0 where
-  pub sound : HasSoundTypes p
-  pub within : IsWithin p
-  pub short : IsShort p
 
 -- the text of that name was read, and is accepted, within the limits
 pub record IsProgramRead (file : List ℕ) (p : Program) (told told_after : Option Content) (faults faults_after : ℕ) : Type 0 where

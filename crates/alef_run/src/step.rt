@@ -3,13 +3,13 @@
 ghost use Rattle.std.specs.Prelude.{◌≡◌, ◌≤◌, ℕ, Option, [], None, length, take, IfOk};
 ghost use Rattle.al_host.specs.Outside.{Content};
 ghost use Rattle.al_region.specs.Region.{IsRegionSize};
-ghost use Rattle.al_typed.specs.Measures.{IsWithin};
-ghost use Rattle.al_typed.specs.Sound.{HasSoundTypes, IsShort};
+ghost use Rattle.al_typed.specs.Layout.{IsLaidOut};
+ghost use Rattle.al_show.specs.Room.{HasRoom};
 ghost use Rattle.al_counts.specs.Counts.{most_entries};
 ghost use Rattle.alef_run.specs.Status.{status_of};
 ghost use Rattle.alef_run.specs.Call.{call_by};
 ghost use Rattle.alef_run.specs.StepMode as spec;
-ghost use Rattle.alef_run.specs.StepMode.{EndsStep, EndsShow, IsProgramRead, IsFound, MayBeShown, bytes_of_region};
+ghost use Rattle.alef_run.specs.StepMode.{EndsStep, EndsShow, IsProgramRead, IsFound, bytes_of_region};
 
 use crate::load::{load_schedule, load_text};
 use crate::outside::write_all;
@@ -51,9 +51,8 @@ fn show<K: Sink>(
     entries: &[Entry],
     out: &mut K,
 ) -> End
-    requires sound { HasSoundTypes program.now }
-    requires within { IsWithin program.now }
-    requires short { IsShort program.now }
+    requires laid_out { IsLaidOut program.now.aggregates }
+    requires room { HasRoom program.now }
     requires region { IsRegionSize region }
     requires few { length entries.now ≤ most_entries }
     ensures { EndsShow program.now region entries.now result (K.got out.old) (K.got out.new) (K.faults out.old) (K.faults out.new) }
@@ -101,6 +100,7 @@ fn report_of(alloc: Global, end: End, entries: Items<Entry>) -> Report
 }
 
 /// Reads the schedule that a job names, and shows the world of a program after as many entries as the job says.
+#[tactic(auto, using(crate::proofs::Stepping::few_taken))]
 fn step_along<H: Host, K: Sink>(
     alloc: Global,
     program: &Program,
@@ -108,9 +108,8 @@ fn step_along<H: Host, K: Sink>(
     host: &mut H,
     out: &mut K,
 ) -> Report
-    requires sound { HasSoundTypes program.now }
-    requires within { IsWithin program.now }
-    requires short { IsShort program.now }
+    requires laid_out { IsLaidOut program.now.aggregates }
+    requires room { HasRoom program.now }
     requires some_region { 1 ≤ job.now.region }
     requires region { job.now.region ≤ 256 }
     // Where the text of the program was read before.
@@ -142,7 +141,8 @@ fn step_found<H: Host, K: Sink>(
 ) -> Report
     requires some_region { 1 ≤ job.now.region }
     requires region { job.now.region ≤ 256 }
-    requires fits { IfOk found.now MayBeShown }
+    requires laid_out { IfOk found.now (λ p. IsLaidOut p.aggregates) }
+    requires room { IfOk found.now HasRoom }
     // Where the text was read before.
     ensures end { (told : Option Content) (faults : ℕ) → IsFound job.now.file found.now told (H.content host.old) faults (H.faults host.old)
         → EndsStep job.now (call_by told (H.content host.new) faults (H.faults host.new) (K.got out.old) (K.got out.new) (K.faults out.old) (K.faults out.new) result) result.end }
@@ -166,7 +166,7 @@ fn kept<T, U: Drop>(it: T, _other: U) -> T
 }
 
 /// Reads the text and the schedule that a job names, and shows the world of the text after as many entries as the job says.
-#[tactic(auto, using(crate::proofs::Stepping::found_fits))]
+#[tactic(auto, using(crate::proofs::Stepping::found_has_room))]
 pub(crate) fn step<H: Host, K: Sink>(alloc: Global, job: &Job, host: &mut H, out: &mut K) -> Report
     requires some_region { 1 ≤ job.now.region }
     requires region { job.now.region ≤ 256 }
