@@ -70,7 +70,6 @@ frame_is env names site s f e =
 
 module _ (env : Environment) (strings functions : ℕ) (bodies : BodiesAreTyped env strings functions) (names : List (List ℕ)) (w : Within)
     (returns : is_sound env.aggregates w.returns ≡ true) where
-
   abbrev Ready : Here → Type 0
   Ready here = IsReady env.aggregates strings here
 

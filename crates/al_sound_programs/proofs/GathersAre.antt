@@ -192,7 +192,7 @@ module _ (env : Environment) (strings functions : ℕ) (law : BodiesAreTyped env
       let g : Gathered = a.0 in
       let same : completed g ≡ b = good_is a.2 in
       let rows = all_rows tree.names tree.items texts 0 ds (branch_numbers tree.items ds) none g defined (subst (λ (x : Bodies). texts + length x.texts ≤ strings) (sym same) few)
-          (record { functions_are = All-nil IsRow; branches_are = All-nil IsBranchRow }) a.1 in
+      (record { functions_are = All-nil IsRow; branches_are = All-nil IsBranchRow }) a.1 in
       subst (λ (x : Bodies). All IsRow x.functions) same
       (All-append IsRow g.functions (in_order (length g.functions) g.branches) rows.functions_are (in_order_rows (length g.functions) g.branches rows.branches_are))
 

@@ -65,7 +65,6 @@ none_start (v ∷ vs) (suc k) = none_start vs k
 
 module _ (p : Program) (env : Environment) (here : Here) (marks : List Bool) (same : env.aggregates ≡ p.aggregates) (laid : IsLaidOut p.aggregates)
     (members : MembersAreStored p.aggregates) (stored : (k : ℕ) (v : Variable) → slice_get env.globals k ≡ Some v → is_stored p.aggregates v.ty ≡ true) where
-
   abbrev Text : Expr → Type 0
   Text e = (x : Operand) → value_of env here e ≡ Good x → TextIsThere p x.value
 

@@ -64,7 +64,6 @@ of_part offset at us vs v h c =
 
 module _ (p : Program) (env : Environment) (here : Here) (adts : List Bool) (same : env.aggregates ≡ p.aggregates) (laid : IsLaidOut p.aggregates)
     (members : MembersAreStored p.aggregates) where
-
   abbrev Holds : Initializer → Type 0
   Holds i = (t : Ty) (offset : ℕ) (vs : List StartValue) → TextsAreThere p env here (values_in i) → is_stored p.aggregates t ≡ true → offset + size_of p.aggregates t ≤ 2 ^ 28 → initializer env here adts i t offset ≡ Good vs → AreStarts p t offset vs
 

@@ -123,12 +123,14 @@ members_from rows (t ∷ ts) run h =
     let ls : List Layout = map (layout rows) ts in
     let at : ℕ = rounded run.at l.align in
     let next : Run = followed run l in
-    let rest = grows ls next (layouts_fit rows ts) in
-    (record {
-      stored = h.0;
-      within = rest;
-      stands = λ u c. keeps_units ls next (unit_at (at + u.at) u.size) (Contains-append_right run.units (moved at l.units) (unit_at (at + u.at) u.size) (contains-moved at l.units u c));
-    }, members_from rows ts next h.1)
+    let rest = grows ls next (layouts_fit rows ts) in (
+      record {
+        stored = h.0;
+        within = rest;
+        stands = λ u c. keeps_units ls next (unit_at (at + u.at) u.size) (Contains-append_right run.units (moved at l.units) (unit_at (at + u.at) u.size) (contains-moved at l.units u c));
+      },
+      members_from rows ts next h.1,
+    )
 
 all_stay : (rows more : List Aggregate) (ts : List Ty) → AllByRecursion (λ t. is_complete rows t ≡ true) ts → map (layout (rows ++ more)) ts ≡ map (layout rows) ts
 all_stay rows more [] h = refl

@@ -65,8 +65,8 @@ texts_there values law p env tree functions tells few types =
     let sound = all_hold (is_sound env.aggregates) us types in
     All-weaker (AreAmong env (outside []) us) (λ (e : Expr). (x : Operand) → value_of env here e ≡ Good x → TextIsThere p x.value)
     (λ e among x good n is.
-        let typed = if_good (IsOperand (among_any env.aggregates strings functions)) (value_of env here e) x
-            (values env strings functions here (tells here ready) ready.texts refl refl e
-            (λ t c u w. All-contains (λ (v : Ty). is_sound env.aggregates v ≡ true) us u sound (among t c u (written_same env (outside []) here refl t ∙ w)))) good in
-        text_below env strings functions x.value n typed.usable.value is)
+    let typed = if_good (IsOperand (among_any env.aggregates strings functions)) (value_of env here e) x
+    (values env strings functions here (tells here ready) ready.texts refl refl e
+    (λ t c u w. All-contains (λ (v : Ty). is_sound env.aggregates v ≡ true) us u sound (among t c u (written_same env (outside []) here refl t ∙ w)))) good in
+    text_below env strings functions x.value n typed.usable.value is)
     (flat_map item_values tree.items) (values_are_gathered law env tree)

@@ -100,9 +100,13 @@ module _ (s : Scope) (env : Environment) (here : Here) where
   gathered : (es : List Expr) → Every Fit es → Have (λ P. Every P es)
   gathered [] h = ([], (none_fit, tt))
   gathered (e ∷ es) h =
-      let rest = gathered es h.1 in
-      (h.0.trees ++ rest.0, (both_fit h.0.trees rest.0 h.0.fit rest.1.0,
-      (Contains-append_left h.0.trees rest.0 e h.0.among, every_also (Contains rest.0) (Contains (h.0.trees ++ rest.0)) (λ a. Contains-append_right h.0.trees rest.0 a) es rest.1.1)))
+      let rest = gathered es h.1 in (
+        h.0.trees ++ rest.0,
+        (
+          both_fit h.0.trees rest.0 h.0.fit rest.1.0,
+          (Contains-append_left h.0.trees rest.0 e h.0.among, every_also (Contains rest.0) (Contains (h.0.trees ++ rest.0)) (λ a. Contains-append_right h.0.trees rest.0 a) es rest.1.1),
+        ),
+      )
 
   one_part : (a : Expr) → Fit a → Have (λ P. P a)
   one_part a h = (h.trees, (h.fit, h.among))

@@ -78,7 +78,6 @@ module _ (law : Laws) (s : Scope) (number : ℕ) (w : Within) (env : Environment
   abbrev Fit : Expr → Type 0
   Fit = IsFitExpr s env here
 
-
   condition_at : (e : Expr) → Fit e → IfGood (condition_of env here e) (IsCondition s)
   condition_at e f = condition_is law s (nest_of number b l c) env here tells e f
 
