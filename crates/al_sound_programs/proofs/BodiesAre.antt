@@ -47,5 +47,5 @@ bodies_typed bodies gathered env strings functions tells w here at tree ready ow
       types = λ t c u e.
           All-contains (λ (x : Ty). is_sound env.aggregates x ≡ true) (parts env at tree).types u
           (all_hold (is_sound env.aggregates) (parts env at tree).types types)
-          (gathered.types env at tree t c u (written_same env at here own t ∙ e));
+          (gathered.types env at at refl tree t c u (written_same env at here own t ∙ e));
     })

@@ -16,9 +16,7 @@ use Rattle.al_environment.specs.declared.environment.Variable.{Variable}
 use Rattle.al_body_parts.specs.Statements.{parts}
 use Rattle.al_type_stmt.specs.declared.within.Within.{Within}
 use Rattle.al_type_stmt.specs.Statements.{branch_at, statement}
-use Rattle.al_type_function.specs.declared.frame.Frame.{Frame}
-use Rattle.al_type_function.specs.declared.outline.Outline.{Outline}
-use Rattle.al_type_function.specs.declared.site.Site.{Site}
+use Rattle.al_sound_programs.specs.Unnamed.{Frame, Outline, Site}
 use Rattle.al_type_function.specs.declared.branch.NumberedBranch.{NumberedBranch}
 use Rattle.al_type_function.specs.Locals.{declared_local, frame_of, locals_faults, rule_18_locals, types_faults}
 use Rattle.al_type_function.specs.Branches.{Way, branch, branch_frame, branch_outline, branches, each, frame_faults, framed, inner_site, inside, numbered_branch, opened_branch, optional, place, round_of, stmt_step, typed_branch, way}

@@ -15,7 +15,7 @@ use Rattle.al_environment.specs.declared.environment.Variable.{Variable}
 use Rattle.al_environment.specs.declared.numbered.Numbered.{Numbered}
 use Rattle.al_body_parts.specs.declared.parts.WrittenText.{WrittenText}
 use Rattle.al_type_stmt.specs.Iterators.{numbered_at}
-use Rattle.al_type_function.specs.declared.locals.Declared.{Declared}
+use Rattle.al_sound_programs.specs.Unnamed.{Declared}
 use Rattle.al_type_function.specs.Numbers.{indexed}
 use Rattle.al_type_function.specs.Locals.{local, locals_faults, result_faults, rule_18_locals, types_faults, variable}
 use Rattle.al_type_function.specs.Texts.{numbered}

@@ -24,7 +24,7 @@ use Rattle.al_type_stmt.specs.declared.within.Within.{Within}
 use Rattle.al_type_stmt.specs.Statements.{statement}
 use Rattle.al_type_function.specs.declared.numbers.FunctionNumbers.{FunctionNumbers}
 use Rattle.al_type_function.specs.declared.branch.NumberedBranch.{NumberedBranch}
-use Rattle.al_type_function.specs.declared.opened.Opened.{Opened}
+use Rattle.al_sound_programs.specs.Unnamed.{Opened}
 use Rattle.al_type_function.specs.declared.function.TypedFunction.{TypedFunction}
 use Rattle.al_type_function.specs.Own.{own_adt}
 use Rattle.al_type_function.specs.Locals.{frame_of, locals_faults, result_faults, rule_18_locals, types_faults}

@@ -25,7 +25,7 @@ use Rattle.al_type_function.specs.declared.branch.NumberedBranch.{NumberedBranch
 use Rattle.al_type_function.specs.declared.function.TypedFunction.{TypedFunction}
 use Rattle.al_type_function.specs.Functions.{function}
 use Rattle.al_bodies.specs.declared.found.Bodies.{Bodies}
-use Rattle.al_bodies.specs.declared.found.Gathered.{Gathered}
+use Rattle.al_sound_programs.specs.Unnamed.{Gathered}
 use Rattle.al_bodies.specs.Bodies.{bodies, completed}
 use Rattle.al_bodies.specs.Gathering.{first_of, gathered, next, none, numbers_for, rest_of, with_function, with_item}
 use Rattle.al_bodies.specs.Placing.{branch_of, function_of, has_number, in_order}

@@ -27,7 +27,7 @@ use Rattle.al_environment.specs.declared.environment.Variable.{Variable}
 use Rattle.al_operands.specs.declared.operand.Operand.{Operand}
 use Rattle.al_type_expr.specs.Nodes.{value_of}
 use Rattle.al_body_parts.specs.declared.parts.Parts.{Parts}
-use Rattle.al_initial.specs.declared.gather.Written.{Written}
+use Rattle.al_sound_programs.specs.Unnamed.{Written}
 use Rattle.al_initial.specs.declared.globals.Initial.{Initial}
 use Rattle.al_initial.specs.Adts.{adts}
 use Rattle.al_initial.specs.Initializers.{initializer}

@@ -22,7 +22,7 @@ use Rattle.al_environment.specs.declared.environment.Environment.{Environment}
 use Rattle.al_environment.specs.declared.environment.Here.{Here}
 use Rattle.al_operands.specs.declared.operand.Operand.{Operand}
 use Rattle.al_type_expr.specs.Nodes.{value_of}
-use Rattle.al_initial.specs.declared.start.Start.{Start}
+use Rattle.al_sound_programs.specs.Unnamed.{Start}
 use Rattle.al_initial.specs.Rules.{rule_18_stands, rule_21_has_parts}
 use Rattle.al_initial.specs.Start.{placed, started, values_at}
 use Rattle.al_initial.specs.Initializers.{Way, all_started, braces, in_parts_if, initializer, parts_of, step, value_started}

@@ -35,8 +35,7 @@ use Rattle.al_convert.specs.Same.{pointed}
 use Rattle.al_constant.specs.Constants.{cast_between, constant}
 use Rattle.al_operands.specs.declared.operand.Operand.{Operand}
 use Rattle.al_operands.specs.Rules.{is_byte_at, is_text, rule_33_converts}
-use Rattle.al_initial.specs.declared.start.Start.{Start}
-use Rattle.al_initial.specs.declared.start.Start.TheVariants as start
+use Rattle.al_sound_programs.specs.Unnamed.{Start}
 use Rattle.al_initial.specs.Start.{constant_start, integer_bits, integer_start, is_null, is_null_at, start_in, start_of, started, text_of, text_word, value, values_at, word_of}
 use Rattle.al_sound_programs.specs.Starts.{AreStarts, StartsIn, TextIsThere}
 use Rattle.al_sound_operators.proofs.Outcomes.{and_then_good, judge_good}
@@ -95,14 +94,14 @@ module _ (p : Program) (t : Ty) (offset : ℕ) where
   front size = ap (λ n. unit_at n size) (omega arith)
 
   -- a type of one unit
-  one_starts : (size : ℕ) (w : StartWord) → units_of p.aggregates t ≡ unit_at 0 size ∷ [] → FitsIn p size w → AreStarts p t offset (values_at offset (start.One size w))
+  one_starts : (size : ℕ) (w : StartWord) → units_of p.aggregates t ≡ unit_at 0 size ∷ [] → FitsIn p size w → AreStarts p t offset (value offset size w ∷ [])
   one_starts size w us fits =
       All-cons (StartsIn p t offset) (value offset size w) []
       (subst (λ l. Contains l (unit_at offset size)) (moved_is (unit_at 0 size ∷ []) us) (first_in (unit_at offset size) (unit_at (offset + 0) size) [] (front size)), fits)
       (All-nil (StartsIn p t offset))
 
   -- an integer of 8 bytes, of two
-  two_start : (low high : ℕ) → units_of p.aggregates t ≡ unit_at 0 4 ∷ unit_at 4 4 ∷ [] → low < 2 ^ 32 → high < 2 ^ 32 → AreStarts p t offset (values_at offset (start.Two low high))
+  two_start : (low high : ℕ) → units_of p.aggregates t ≡ unit_at 0 4 ∷ unit_at 4 4 ∷ [] → low < 2 ^ 32 → high < 2 ^ 32 → AreStarts p t offset (value offset 4 (word.Number low) ∷ value (offset + 4) 4 (word.Number high) ∷ [])
   two_start low high us small large =
       let at = moved_is (unit_at 0 4 ∷ unit_at 4 4 ∷ []) us in
       let a : StartValue = value offset 4 (word.Number low) in
@@ -203,7 +202,7 @@ module _ (p : Program) (t : Ty) (x : Operand) (there_is : TextIsThere p x.value)
       subst (λ u. AreStarts p u offset (values_at offset s)) (sym (integer_is t k e))
       (subst (λ r. AreStarts p (ty.Integer k) offset (values_at offset r)) m.2 (integer_starts p k offset m.0 (bits_below p.aggregates k x.value m.0 m.1)))
   start_by None s offset e c h =
-      let m = mapped_some (start.One 4) (word_of t x) s h in
+      let m = mapped_some _ (word_of t x) s h in
       let w = word_by (is_null x.written) m.0 refl e c m.1 in
       subst (λ r. AreStarts p t offset (values_at offset r)) m.2 (one_starts p t offset 4 m.0 w.0 w.1)
 

@@ -141,7 +141,7 @@ module _ (env : Environment) (here : Here) where
 
     met_by : (e : Expr) (q : Parts) → IsAmong (expr env here e false q).types e
     met_by e q t c u w =
-        let found = law.types env here (alone e) t (subst (λ ts. Contains ts t) (sym (alone_types e)) c) u w in
+        let found = law.types env here here refl (alone e) t (subst (λ ts. Contains ts t) (sym (alone_types e)) c) u w in
         let more = expr_more e in
         let new : Contains (more.new false) u = subst (λ us. Contains us u) (ap (λ (p : Parts). p.types) (alone_parts e) ∙ more.is false nothing) found in
         subst (λ us. Contains us u) (sym (more.is false q)) (Contains-append_right q.types (more.new false) u new)

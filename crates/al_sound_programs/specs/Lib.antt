@@ -1,3 +1,4 @@
+pub mod Unnamed
 pub mod Starts
 pub mod Functions
 pub mod Programs
