@@ -29,7 +29,7 @@ use Rattle.al_form.specs.Forms.{forms}
 use Rattle.al_layout.specs.Rows.{laid_out}
 use Rattle.al_build_environment.specs.Whole.{checked, environment, globals_of, laid_whole, named, names_of, types_faults, types_of, whole, with_names}
 use Rattle.al_tree_laws.specs.Texts.{declared_globals, item_globals}
-use Rattle.al_short_programs.proofs.Outcomes.{good_is, and_then_good, judge_good}
+use Rattle.al_short_programs.proofs.Outcomes.{and_then_good, judge_good}
 
 put_length : {A : Type 0} (xs : List A) (n : ℕ) (x : A) → length (put xs n x) ≤ length xs + 1
 put_length {A} xs n x = on (nat_lt n (length xs))

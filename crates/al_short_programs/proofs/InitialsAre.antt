@@ -1,5 +1,5 @@
 -- The initializers of a text have no string constants but those of its items, and a program has the globals of the environment.
-use Rattle.std.proofs.Common.{◌≡◌, ℕ, suc, ◌+◌, false, List, [], ◌∷◌, length, map, flat_map, Option, Some, None, refl, sym, ap, ◌∙◌, subst}
+use Rattle.std.proofs.Common.{◌≡◌, ◌++◌, ℕ, suc, ◌+◌, false, List, [], ◌∷◌, length, map, flat_map, Option, Some, None, refl, sym, ap, ◌∙◌, subst}
 use Rattle.al_tree.specs.declared.item.Initializer.{Initializer, roll-Initializer, map-Initializer, fold-roll-Initializer}
 use Rattle.al_tree.specs.declared.item.Initializer.TheFolds.{ind-Initializer}
 use Rattle.al_tree.specs.declared.item.Initializer.TheOpen.{Initializer-F}
