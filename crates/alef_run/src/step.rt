@@ -166,7 +166,6 @@ fn kept<T, U: Drop>(it: T, _other: U) -> T
 }
 
 /// Reads the text and the schedule that a job names, and shows the world of the text after as many entries as the job says.
-#[tactic(auto, using(crate::proofs::Stepping::found_has_room))]
 pub(crate) fn step<H: Host, K: Sink>(alloc: Global, job: &Job, host: &mut H, out: &mut K) -> Report
     requires some_region { 1 ≤ job.now.region }
     requires region { job.now.region ≤ 256 }

@@ -3,7 +3,7 @@ use Rattle.alef_run.specs.Call.{call_by}
 use Rattle.alef_run.specs.StepMode.{EndsStep, IsFound}
 use Rattle.alef_run.specs.declared.report.Report.{Report}
 use Rattle.alef_run.proofs.Stages.{no_image}
-use Rattle.alef_run.proofs.Stepping.{no_bytes, text_found}
+use Rattle.alef_run.proofs.Stepping.{found_has_room, no_bytes, text_found}
 use Rattle.alef_run.proofs.step.step.Goals as goal
 
 pub returns-in-Err-clause-end : goal.returns-in-Err-clause-end
@@ -26,3 +26,6 @@ returns-clause-end g c =
     (call_by (g.H.Host.content c.args.host.now) (g.H.Host.content c.step_found-report.new.host) (g.H.Host.faults c.args.host.now) (g.H.Host.faults c.step_found-report.new.host)
     (g.K.Sink.got c.args.out.now) (g.K.Sink.got c.step_found-report.new.out) (g.K.Sink.faults c.args.out.now) (g.K.Sink.faults c.step_found-report.new.out) report) report.end in
     subst R (sym c.kept.ensures) (c.step_found-report.ensures.end (g.H.Host.content c.args.host.now) (g.H.Host.faults c.args.host.now) found)
+
+pub step_found-report-requires-clause-room : goal.step_found-report-requires-clause-room
+step_found-report-requires-clause-room g c = found_has_room c.as_slice.result.now c.front-found.result c.front-found.ensures.program
