@@ -8,6 +8,3 @@ mod laws;
 pub use act::{Act, Block, Branch, Branches, Bytes, Start, Starts, Words};
 pub use entry::{Entry, Loan};
 pub use laws::places_are_least;
-
-#[cfg(test)]
-mod tests;

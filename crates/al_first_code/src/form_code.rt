@@ -58,6 +58,3 @@ pub fn run_form(alloc: Global, form: &Form) -> Result<FormRun, NoMemory>
     let ran = run_task(alloc, code.as_slice(), code.len() as u64)?;
     Ok(FormRun { code, ran })
 }
-
-#[cfg(test)]
-mod tests;

@@ -13,6 +13,3 @@ pub use host::Host;
 pub use memory_host::MemHost;
 pub use memory_sink::MemSink;
 pub use sink::Sink;
-
-#[cfg(test)]
-mod tests;

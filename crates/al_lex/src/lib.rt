@@ -25,6 +25,3 @@ pub use number::{number_kind, number_value};
 pub use reading::{lex, next};
 pub use text::text_bytes;
 pub use token::{Token, Tokens};
-
-#[cfg(test)]
-mod tests;

@@ -1,17 +1,12 @@
--- The least place for a new block lies in the first hole that has room for it.
-use Rattle.std.proofs.Common.{◌≡◌, ℕ, ◌+◌, ◌%◌, ◌<◌, ◌≤◌, ◌⊎◌, inl, inr, Bool, true, false, cond, if◌then◌else◌, leb, nat_le, not, ◌&&◌, List, [], ◌∷◌, Option, Some, None, MatchOption, refl, sym, arith}
+-- The least place for a new block lies in the first run that has room for it.
+use Rattle.std.proofs.Common.{◌≡◌, ℕ, ◌+◌, ◌%◌, ◌<◌, ◌≤◌, ◌⊎◌, inl, inr, Bool, true, false, cond, leb, nat_le, not, ◌&&◌, List, [], ◌∷◌, Option, Some, None, MatchOption, refl, sym, arith}
 use Rattle.std.specs.List.{list_any}
 use Rattle.std.proofs.lemmas.Bool.Decides.{nat_tests}
 use Rattle.al_event.specs.Store.{Span, region_base, overlaps, least, IsPlace}
 use Rattle.al_event.proofs.Least.{least_is, none_is}
 use Rattle.al_region.specs.Region.{Area, IsLaid, IsSound}
-use Rattle.al_region.specs.Order.{round_up}
+use Rattle.al_run_tree.specs.Runs.{round_up, first_gap}
 use Rattle.al_region.proofs.Laid.{IsClear, laid_rises, clear_before, clear_is, is_clear}
-
--- the beginning of the first hole that has room for n bytes
-abbrev pub first_gap : ℕ → List Span → ℕ → ℕ → Option ℕ
-first_gap from [] end n = if nat_le (from + n) end then Some from else None
-first_gap from (b ∷ bs) end n = if nat_le (from + n) b.at then Some from else first_gap (round_up (b.at + b.size)) bs end n
 
 -- n bytes fit at `at`, among blocks between these addresses
 pub record Fits (from : ℕ) (bs : List Span) (end n at : ℕ) : Type 0 where

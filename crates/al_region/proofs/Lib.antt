@@ -1,5 +1,6 @@
 pub mod Laid
-mod Search
 pub mod Gaps
-mod Freed
-mod Changes
+mod Found
+mod Kept
+mod Sound
+mod Calls

@@ -5,12 +5,10 @@
 //! which it fits between the live blocks. Only [`Region::new`] takes memory.
 #![tactic(auto)]
 
-mod extent;
-mod holes;
 mod region;
 
-pub use extent::{BASE, MOST_BLOCKS};
-pub use region::{NotThere, Region};
+pub use al_run_tree::Steps;
+pub use region::{BASE, MOST_BLOCKS, NotThere, Region};
 
 #[cfg(test)]
 mod tests;

@@ -103,11 +103,12 @@ fn no_more_than_65536_blocks_live(rt: HostRuntime) -> Result<(), Fail> {
         assert_eq!(&rt; region.take(8, Block::Heap), Some(0x1000_0000 + 8 * k));
     }
     assert_eq!(&rt; region.take(8, Block::Heap), None);
-    for k in 0..256u32 {
+    // every other block, and then one between two of them
+    for k in 0..32_768u32 {
         assert_eq!(&rt; region.give(0x1000_0008 + 16 * k, Block::Heap), Ok(()));
     }
     let calls = [
-        Call::Take(9, Some(0x1008_0000)),
+        Call::Take(9, Some(0x1007_fff8)),
         Call::Give(0x1000_0320, Block::Heap, Ok(())),
         Call::Take(24, Some(0x1000_0318)),
     ];

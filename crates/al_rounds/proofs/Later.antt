@@ -1,5 +1,5 @@
 -- Worlds that go on, and their loans.
-use Rattle.std.proofs.Common.{◌≡◌, ◌≢◌, ℕ, zero, suc, ◌+◌, ◌<◌, ◌≤◌, List, [], ◌∷◌, ◌++◌, length, Option, Some, None, refl, sym, ap, ◌∙◌, subst, append_assoc, append-nil, arith, length-append, All, inl, inr}
+use Rattle.std.proofs.Common.{◌≡◌, ◌≢◌, ℕ, zero, suc, ◌+◌, ◌<◌, ◌≤◌, List, [], ◌∷◌, ◌++◌, length, Option, Some, None, refl, sym, ap, ◌∙◌, subst, append_assoc, append-nil, arith, length-append, inl, inr}
 use Rattle.std.specs.Prelude.{◌↔◌, ◌⊎◌, IsSome, slice_index_or, slice_set}
 use Rattle.std.proofs.lemmas.List.Elements.{All-nil, All-cons, All-append}
 use Rattle.al_event.specs.declared.entry.Entry.{Entry}
@@ -12,31 +12,55 @@ use Rattle.al_core.specs.declared.answers.After.TheVariants.{Held as AfterHeld, 
 use Rattle.al_core.specs.Lends.{MatchAfter}
 use Rattle.al_core.specs.Steps.{AddsEntry, KeepsRest}
 use Rattle.al_core.proofs.Loans.{lent_in, lent-cons, loan_other}
-use Rattle.al_rounds.specs.Later.{IsLater}
+use Rattle.al_rounds.specs.Later.{IsLaterBy, IsLater, IsMerged}
+
+module _ (P : ℕ → Type 0) where
+  pub stays_by : (old new : History) → new.entries ≡ old.entries → new.image ≡ old.image → new.region ≡ old.region → new.limit ≡ old.limit → new.quota ≡ old.quota → new.dropped ≡ old.dropped → IsLaterBy P old new
+  stays_by old new entries image region limit quota dropped = record {
+    more = [];
+    entries = entries ∙ sym (append-nil old.entries);
+    by = All-nil (λ (e : Entry). P e.worker);
+    image = image;
+    region = region;
+    limit = limit;
+    quota = quota;
+    dropped = dropped;
+  }
+
+  pub later_by : (a b c : History) → IsLaterBy P a b → IsLaterBy P b c → IsLaterBy P a c
+  later_by a b c x y = record {
+    more = x.more ++ y.more;
+    entries = y.entries ∙ ap (λ l. l ++ y.more) x.entries ∙ append_assoc a.entries x.more y.more;
+    by = All-append (λ (e : Entry). P e.worker) x.more y.more x.by y.by;
+    image = y.image ∙ x.image;
+    region = y.region ∙ x.region;
+    limit = y.limit ∙ x.limit;
+    quota = y.quota ∙ x.quota;
+    dropped = y.dropped ∙ x.dropped;
+  }
+
+  -- where all workers that have Q have P
+  pub later_as : (Q : ℕ → Type 0) (a b : History) → ((w : ℕ) → Q w → P w) → IsLaterBy Q a b → IsLaterBy P a b
+  later_as Q a b f x = record {
+    more = x.more;
+    entries = x.entries;
+    by = λ k d inside. f (slice_index_or x.more k d).worker (x.by k d inside);
+    image = x.image;
+    region = x.region;
+    limit = x.limit;
+    quota = x.quota;
+    dropped = x.dropped;
+  }
 
 pub stays : (worker : ℕ) (old new : History) → new.entries ≡ old.entries → new.image ≡ old.image → new.region ≡ old.region → new.limit ≡ old.limit → new.quota ≡ old.quota → new.dropped ≡ old.dropped → IsLater worker old new
-stays worker old new entries image region limit quota dropped = record {
-  more = [];
-  entries = entries ∙ sym (append-nil old.entries);
-  by = All-nil (λ (e : Entry). e.worker ≡ worker);
-  image = image;
-  region = region;
-  limit = limit;
-  quota = quota;
-  dropped = dropped;
-}
+stays worker = stays_by (λ w. w ≡ worker)
 
 pub later_on : (worker : ℕ) (a b c : History) → IsLater worker a b → IsLater worker b c → IsLater worker a c
-later_on worker a b c x y = record {
-  more = x.more ++ y.more;
-  entries = y.entries ∙ ap (λ l. l ++ y.more) x.entries ∙ append_assoc a.entries x.more y.more;
-  by = All-append (λ (e : Entry). e.worker ≡ worker) x.more y.more x.by y.by;
-  image = y.image ∙ x.image;
-  region = y.region ∙ x.region;
-  limit = y.limit ∙ x.limit;
-  quota = y.quota ∙ x.quota;
-  dropped = y.dropped ∙ x.dropped;
-}
+later_on worker = later_by (λ w. w ≡ worker)
+
+-- what the one worker made is made by one of so many
+pub merged_alone : (workers : ℕ) (a b : History) → 1 ≤ workers → IsLater 0 a b → IsMerged workers a b
+merged_alone workers a b some = later_as (λ w. w < workers) (λ w. w ≡ 0) a b (λ w e. omega (arith, e, some))
 
 pub by_entry : (worker p : ℕ) (old new : History) → AddsEntry p worker old new → KeepsRest worker old new → IsLater worker old new
 by_entry worker p old new a k = record {

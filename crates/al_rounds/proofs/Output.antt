@@ -1,5 +1,5 @@
 -- The output of a run only grows.
-use Rattle.std.proofs.Common.{◌≡◌, ℕ, List, [], ◌∷◌, ◌++◌, Option, Some, None, Bool, true, false, cond, ◌==◌, refl, sym, ap, ◌∙◌, subst, append_assoc, append-nil, IsSome, Result, Ok, Err, option_map}
+use Rattle.std.proofs.Common.{◌≡◌, ℕ, List, [], ◌∷◌, ◌++◌, Option, Some, None, Bool, true, false, cond, refl, sym, ap, ◌∙◌, subst, append_assoc, append-nil, IsSome, Result, Ok, Err, option_map}
 use Rattle.std.specs.Option.{option_map_or}
 use Rattle.std.proofs.lemmas.Option.{same_Some}
 use Rattle.al_base.specs.declared.trap.Trap.{Trap}
@@ -17,7 +17,7 @@ use Rattle.al_world.proofs.Local.{step_by}
 use Rattle.al_world.proofs.Permits.{runs_go_through}
 use Rattle.rv_exec.specs.Machine.{machine}
 use Rattle.al_core.specs.Opening.{globals_of, main_of}
-use Rattle.al_core.specs.History.{History, run_of, seen_of, output_of}
+use Rattle.al_core.specs.History.{History, run_of, output_of}
 use Rattle.al_rounds.specs.Later.{followed_by, PutsOutMore}
 
 -- what was put out stands first

@@ -5,9 +5,10 @@ ghost use Rattle.al_core.specs.History.{over_of, loan_of, away};
 ghost use Rattle.al_core.specs.Lends.{IsLent, MatchAfter};
 ghost use Rattle.al_rounds.specs.Later.{IsLater};
 
+use crate::gate::{Gate, OpenGate};
 use al_base::NoMemory;
 use al_core::{After, Next, World};
-use rv_exec::{Held, stretch};
+use rv_exec::Held;
 use std::alloc::Global;
 
 /// The one worker of a round.
@@ -29,32 +30,45 @@ pub fn round(alloc: Global, world: World, quota: u64) -> (World, Option<NoMemory
 {
     let mut world = world;
     world.allow(quota);
-    match run(alloc, &mut world) {
+    match go_alone(alloc, &OpenGate, &mut world, 0) {
         Ok(()) => (world, None),
         Err(no_memory) => (world, Some(no_memory)),
     }
 }
 
-/// Runs a world on until it is over or has as many entries as it may have by now.
-fn run(alloc: Global, world: &mut World) -> Result<(), NoMemory>
+/// Runs a world on, on this thread as worker 0, until it is over or has as many entries as it may have by now. The worker has
+/// made so many entries in this round, which the gate is told.
+pub fn go_alone<G: Gate>(
+    alloc: Global,
+    gate: &G,
+    world: &mut World,
+    made: u64,
+) -> Result<(), NoMemory>
     requires { away world.old ≡ 0 }
     ensures later { IsLater 0 world.old world.new }
     ensures done { OnOk result (IsSome (over_of world.new) ⊎ (length world.new.entries ≡ world.new.quota)) }
     ensures here { OnOk result (away world.new ≡ 0) }
 {
+    let mut made = made;
     loop {
-        let _made = world.entries().len();
+        let _entries = world.entries().len();
         let held = match world.pick(WORKER) {
             Next::Held(held) => held,
             Next::Full | Next::Over => return Ok(()),
             Next::Others => unreachable!(),
         };
-        go_on(alloc, world, held)?;
+        made = go_on(alloc, gate, world, held, made)?;
     }
 }
 
-/// Runs a proc that was lent, for some entries in a row.
-fn go_on(alloc: Global, world: &mut World, held: Held) -> Result<(), NoMemory>
+/// Runs a proc that was lent, for some entries in a row. It gives how many entries the worker has made by then.
+fn go_on<G: Gate>(
+    alloc: Global,
+    gate: &G,
+    world: &mut World,
+    held: Held,
+    made: u64,
+) -> Result<u64, NoMemory>
     requires lent { IsLent world.old 0 held }
     requires live { over_of world.old ≡ None }
     ensures later { IsLater 0 world.old world.new }
@@ -63,18 +77,27 @@ fn go_on(alloc: Global, world: &mut World, held: Held) -> Result<(), NoMemory>
     ensures idle { OnOk result (loan_of world.new 0 ≡ None) }
 {
     let mut held = held;
+    let mut made = made;
     for _ in 0..MOST_IN_A_ROW {
-        held = match turn(alloc, world, held)? {
+        let after = turn(alloc, gate, world, held, made)?;
+        made = made.saturating_add(1);
+        held = match after {
             After::Held(next) => next,
-            After::Idle | After::Over => return Ok(()),
+            After::Idle | After::Over => return Ok(made),
         };
     }
     world.put_back(WORKER, held);
-    Ok(())
+    Ok(made)
 }
 
 /// Runs what was lent to its next action, and does that.
-fn turn(alloc: Global, world: &mut World, held: Held) -> Result<After, NoMemory>
+fn turn<G: Gate>(
+    alloc: Global,
+    gate: &G,
+    world: &mut World,
+    held: Held,
+    made: u64,
+) -> Result<After, NoMemory>
     requires lent { IsLent world.old 0 held }
     requires live { over_of world.old ≡ None }
     ensures later { IsLater 0 world.old world.new }
@@ -82,7 +105,7 @@ fn turn(alloc: Global, world: &mut World, held: Held) -> Result<After, NoMemory>
     ensures one { OnOk result (length world.new.entries ≡ length world.old.entries + 1) }
     ensures after { IfOk result (λ after. MatchAfter after (λ held. IsLent world.new 0 held × (over_of world.new ≡ None)) (loan_of world.new 0 ≡ None) (loan_of world.new 0 ≡ None)) }
 {
-    match stretch(alloc, world.image(), held) {
+    match gate.stretch(alloc, world.image(), WORKER, made, held) {
         Ok(asked) => match world.perform(WORKER, asked) {
             Ok(after) => Ok(after),
             Err((_, no_memory)) => Err(no_memory),

@@ -27,6 +27,8 @@ fn first_world(alloc: Global, image: Image, job: &Job) -> Result<World, NoMemory
     requires entries { job.now.entries ≤ 2 ^ 26 }
     ensures { IfOk result (λ world. world ≡ opening image job.now.region job.now.entries) }
 {
+    let mut image = image;
+    image.make_ready(alloc)?;
     let image = Arc::new(alloc, image)?;
     let limits = Limits {
         region: job.region,

@@ -3,8 +3,6 @@
 
 mod assembler;
 mod line;
-#[cfg(test)]
-mod tests;
 mod text;
 
 pub use assembler::assemble;

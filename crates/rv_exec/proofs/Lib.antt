@@ -12,3 +12,8 @@ pub mod Staying
 pub mod Stepping
 pub mod Values
 pub mod Copies
+pub mod OpKinds
+pub mod MicroMoves
+pub mod Accesses
+pub mod Running
+pub mod LineRows

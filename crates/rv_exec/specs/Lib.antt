@@ -9,3 +9,4 @@ pub mod Answers
 pub mod Shown
 pub mod Laws
 pub mod Proper
+pub mod Micros

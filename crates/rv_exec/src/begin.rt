@@ -16,10 +16,10 @@ use std::alloc::Global;
 const FULL_TURNS: u32 = 4096;
 
 /// The registers of a task at its start.
-fn first_registers() -> [u32; 32]
+fn first_registers() -> [u32; 33]
     ensures { words_of result ≡ first_registers }
 {
-    let mut registers = [0; 32];
+    let mut registers = [0; 33];
     registers[1] = CODE_START;
     registers[2] = STACK_START;
     registers[3] = FULL_TURNS;

@@ -108,8 +108,10 @@ pub fn stretch(alloc: Global, image: &Image, held: Held) -> Result<Asked, (Held,
     let Hart { mut state } = hart;
     let Privates { mut words } = privates;
     let contents = image.contents();
-    for done in state.work..LONGEST_STRETCH {
-        match state.step(alloc, contents, words.as_mut_slice()) {
+    while state.work < LONGEST_STRETCH {
+        let slots = words.as_mut_slice();
+        state.run(image, slots);
+        match state.step(alloc, contents, slots) {
             Ok(None) => {}
             Ok(Some(act)) => return Ok(asking(proc, act, state, words)),
             Err(no_memory) => {

@@ -12,7 +12,7 @@ use al_event::Act;
 use rv_isa::instr::LoadOp;
 
 /// The most counted jumps of a stretch.
-const MOST_JUMPS: u32 = 1 << 27;
+pub const MOST_JUMPS: u32 = 1 << 27;
 
 /// Where the words of the answer go that a hart waits for.
 #[derive(Clone, Copy, Debug, Drop, PartialEq, Eq)]
@@ -28,11 +28,11 @@ pub enum Waits {
 }
 
 /// The registers, the pc, the private stack as far as it was written, the text being composed, and what was counted
-/// since the last answer.
+/// since the last answer. The slot past the last register holds 0: a run reads it in place of register 0.
 #[derive(Debug, Drop)]
 pub struct State {
     pub pc: u32,
-    pub registers: [u32; 32],
+    pub registers: [u32; 33],
     pub stack: Vec<u32>,
     pub text: Vec<u8>,
     pub waits: Waits,

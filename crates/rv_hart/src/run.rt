@@ -105,32 +105,3 @@ fn perform(alloc: Global, hart: &mut Hart, word: u32) -> Result<Option<Action>, 
         None => Ok(Some(Action::Stop(Trap::Illegal))),
     }
 }
-
-#[cfg(test)]
-mod tests {
-    use super::*;
-    use std::test::Fail;
-
-    #[test]
-    fn runs_words(rt: HostRuntime) -> Result<(), Fail> {
-        // the byte 42, a print, and the end, as in the first worked run
-        let code = [
-            0x02a0_0513,
-            0x0100_0893,
-            0x0000_0073,
-            0x00e0_0893,
-            0x0000_0073,
-            0x0010_0893,
-            0x0000_0073,
-        ];
-        let ran = run_task(rt.alloc(), &code, 100)?;
-        assert_eq!(rt; ran.output.as_slice(), b"*".as_slice());
-        assert_eq!(rt; ran.prints, 1);
-        assert_eq!(rt; ran.work, 7);
-        assert_eq!(rt; ran.ending, Ending::Ended);
-        let cut = run_task(rt.alloc(), &code[..6], 100)?;
-        assert_eq!(rt; cut.work, 6);
-        assert_eq!(rt; cut.ending, Ending::Trapped(Trap::Illegal));
-        Ok(())
-    }
-}

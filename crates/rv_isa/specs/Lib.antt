@@ -2,3 +2,4 @@ pub mod Fields
 pub mod Image
 pub mod Parts
 pub mod Table
+pub mod Micro

@@ -3,9 +3,14 @@
 ghost use Rattle.std.specs.Prelude.{◌≡◌, length, slice_get, slice_index, IsTrue, IfOk, IfErr, IsOk, ◌↔◌, ◌&&◌, nat_lt};
 ghost use Rattle.std.specs.List.{list_all};
 ghost use Rattle.std.specs.Option.{option_copied};
+ghost use Rattle.std.specs.Prelude.{All, IfSome};
+ghost use Rattle.rv_isa.specs.Micro.{micros_of, IsNumbered};
 ghost use Rattle.rv_isa.specs.Image.{are_counts, is_function, is_main, is_global, is_item, is_past, is_line, adjacent, are_rows, is_within, IsWithin};
 
+use crate::micro::{Micro, micros_of};
+use al_base::NoMemory;
 use al_items::Items;
+use std::alloc::Global;
 use std::marker::Model;
 
 /// A function: the index of its first word in the code, its slots, and its parameters in words.
@@ -194,21 +199,23 @@ fn are_ascending_lines(lines: &[LineRow]) -> bool
         .all(|(a, b)| a.word < b.word)
 }
 
-/// A program for the machine, whose contents keep the bounds.
+/// A program for the machine, whose contents keep the bounds. Once it is made ready it has its micro-operations beside its words.
 #[derive(Debug, Drop)]
 pub struct Image {
     contents: Contents,
+    micros: Option<Items<Micro>>,
 }
 
 impl Model for Image {
     ghost use Rattle.rv_isa.specs.declared.image.Contents.{Contents};
     ghost use Rattle.rv_isa.specs.Image.{IsWithin};
+    ghost use Rattle.rv_isa.specs.Micro.{IsReady};
 
     ghost Value = { Contents };
 
     ghost view = { λ image. image.contents };
 
-    ghost invariant = { λ image. IsWithin image.contents };
+    ghost invariant = { λ image. IsWithin image.contents × IsReady image.contents.code image.micros };
 }
 
 impl Image {
@@ -217,7 +224,10 @@ impl Image {
         requires { IsWithin contents }
         ensures { result ≡ contents }
     {
-        Image { contents }
+        Image {
+            contents,
+            micros: None,
+        }
     }
 
     /// An image of contents that came from outside, or the contents where they are out of the bounds.
@@ -227,7 +237,7 @@ impl Image {
         ensures refused { IfErr result (λ refused. refused ≡ contents) }
     {
         if contents.is_within() {
-            Ok(Image { contents })
+            Ok(Image::new(contents))
         } else {
             Err(contents)
         }
@@ -241,12 +251,32 @@ impl Image {
         &self.contents
     }
 
+    /// Makes the image ready to run: its code is decoded here, and not again at each word that is fetched. Where there is no
+    /// memory for that, it runs all the same, and more slowly.
+    pub fn make_ready(&mut self, alloc: Global) -> Result<(), NoMemory>
+        ensures { self.new ≡ self.old }
+    {
+        self.micros = Some(micros_of(alloc, self.contents.code.as_slice())?);
+        Ok(())
+    }
+
+    /// The micro-operations of the code, one for each word, where the image was made ready.
+    pub fn micros(&self) -> Option<&[Micro]>
+        ensures all { IfSome result (λ micros. micros.now ≡ micros_of self.now.code) }
+        ensures numbered { IfSome result (λ micros. All IsNumbered micros.now) }
+    {
+        match &self.micros {
+            Some(micros) => Some(micros.as_slice()),
+            None => None,
+        }
+    }
+
     /// What the image contained.
     pub fn into_contents(self) -> Contents
         ensures value { result ≡ self }
         ensures within { IsWithin result }
     {
-        let Image { contents } = self;
+        let Image { contents, .. } = self;
         contents
     }
 }

@@ -9,6 +9,7 @@ mod encoder;
 mod fields;
 pub mod image;
 pub mod instr;
+pub mod micro;
 mod sends;
 
 pub use decoder::decode;

@@ -1,214 +1,143 @@
 //! Encodings of every instruction with edge values of its operands. The words are those of GNU binutils.
 
-use rv_isa::instr::{BranchOp, ImmediateOp, Instr, LoadOp, RegisterOp, ShiftOp, StoreOp, UpperOp};
+use crate::numbers::{parts, word};
 use rv_isa::{decode, encode};
+use std::alloc::Global;
 use std::process::Abort;
+use std::test::Fail;
 
-fn upper(op: UpperOp, rd: u8, imm: u32) -> Instr {
-    Instr::Upper { op, rd, imm }
-}
+/// Words in hexadecimal, each with its instruction as it is shown.
+static INSTRUCTIONS: &str = "\
+000000b7 Upper { op: Lui, rd: 1, imm: 0 }
+ffffffb7 Upper { op: Lui, rd: 31, imm: 1048575 }
+12345537 Upper { op: Lui, rd: 10, imm: 74565 }
+00000097 Upper { op: Auipc, rd: 1, imm: 0 }
+ffffff97 Upper { op: Auipc, rd: 31, imm: 1048575 }
+12345517 Upper { op: Auipc, rd: 10, imm: 74565 }
+ffdff06f Jal { rd: 0, imm: -4 }
+800000ef Jal { rd: 1, imm: -1048576 }
+7fffffef Jal { rd: 31, imm: 1048574 }
+001000ef Jal { rd: 1, imm: 2048 }
+000012ef Jal { rd: 5, imm: 4096 }
+002000ef Jal { rd: 1, imm: 2 }
+00008067 Jalr { rd: 0, rs1: 1, imm: 0 }
+7fff0fe7 Jalr { rd: 31, rs1: 30, imm: 2047 }
+800f80e7 Jalr { rd: 1, rs1: 31, imm: -2048 }
+fe208ce3 Branch { op: Beq, rs1: 1, rs2: 2, imm: -8 }
+fe648fe3 Branch { op: Beq, rs1: 9, rs2: 6, imm: -2 }
+7e0f9fe3 Branch { op: Bne, rs1: 31, rs2: 0, imm: 4094 }
+008390e3 Branch { op: Bne, rs1: 7, rs2: 8, imm: 2048 }
+81f04063 Branch { op: Blt, rs1: 0, rs2: 31, imm: -4096 }
+fe64cfe3 Branch { op: Blt, rs1: 9, rs2: 6, imm: -2 }
+fe20dce3 Branch { op: Bge, rs1: 1, rs2: 2, imm: -8 }
+0083d0e3 Branch { op: Bge, rs1: 7, rs2: 8, imm: 2048 }
+7e0fefe3 Branch { op: Bltu, rs1: 31, rs2: 0, imm: 4094 }
+fe64efe3 Branch { op: Bltu, rs1: 9, rs2: 6, imm: -2 }
+81f07063 Branch { op: Bgeu, rs1: 0, rs2: 31, imm: -4096 }
+0083f0e3 Branch { op: Bgeu, rs1: 7, rs2: 8, imm: 2048 }
+800f8083 Load { op: Lb, rd: 1, rs1: 31, imm: -2048 }
+00810f83 Load { op: Lb, rd: 31, rs1: 2, imm: 8 }
+7fff9083 Load { op: Lh, rd: 1, rs1: 31, imm: 2047 }
+00011f83 Load { op: Lh, rd: 31, rs1: 2, imm: 0 }
+ffffa083 Load { op: Lw, rd: 1, rs1: 31, imm: -1 }
+00112f83 Load { op: Lw, rd: 31, rs1: 2, imm: 1 }
+800fc083 Load { op: Lbu, rd: 1, rs1: 31, imm: -2048 }
+00814f83 Load { op: Lbu, rd: 31, rs1: 2, imm: 8 }
+7fffd083 Load { op: Lhu, rd: 1, rs1: 31, imm: 2047 }
+00015f83 Load { op: Lhu, rd: 31, rs1: 2, imm: 0 }
+801f8023 Store { op: Sb, rs1: 31, rs2: 1, imm: -2048 }
+01f10423 Store { op: Sb, rs1: 2, rs2: 31, imm: 8 }
+7e1f9fa3 Store { op: Sh, rs1: 31, rs2: 1, imm: 2047 }
+01f11023 Store { op: Sh, rs1: 2, rs2: 31, imm: 0 }
+fe1fafa3 Store { op: Sw, rs1: 31, rs2: 1, imm: -1 }
+01f12fa3 Store { op: Sw, rs1: 2, rs2: 31, imm: 31 }
+800f8093 Immediate { op: Addi, rd: 1, rs1: 31, imm: -2048 }
+02a00513 Immediate { op: Addi, rd: 10, rs1: 0, imm: 42 }
+7fffa093 Immediate { op: Slti, rd: 1, rs1: 31, imm: 2047 }
+00102513 Immediate { op: Slti, rd: 10, rs1: 0, imm: 1 }
+ffffb093 Immediate { op: Sltiu, rd: 1, rs1: 31, imm: -1 }
+00003513 Immediate { op: Sltiu, rd: 10, rs1: 0, imm: 0 }
+800fc093 Immediate { op: Xori, rd: 1, rs1: 31, imm: -2048 }
+02a04513 Immediate { op: Xori, rd: 10, rs1: 0, imm: 42 }
+7fffe093 Immediate { op: Ori, rd: 1, rs1: 31, imm: 2047 }
+00106513 Immediate { op: Ori, rd: 10, rs1: 0, imm: 1 }
+fffff093 Immediate { op: Andi, rd: 1, rs1: 31, imm: -1 }
+00007513 Immediate { op: Andi, rd: 10, rs1: 0, imm: 0 }
+01ff9093 Shift { op: Slli, rd: 1, rs1: 31, amount: 31 }
+00009f93 Shift { op: Slli, rd: 31, rs1: 1, amount: 0 }
+01ffd093 Shift { op: Srli, rd: 1, rs1: 31, amount: 31 }
+0000df93 Shift { op: Srli, rd: 31, rs1: 1, amount: 0 }
+41ffd093 Shift { op: Srai, rd: 1, rs1: 31, amount: 31 }
+4000df93 Shift { op: Srai, rd: 31, rs1: 1, amount: 0 }
+003100b3 Register { op: Add, rd: 1, rs1: 2, rs2: 3 }
+40100fb3 Register { op: Sub, rd: 31, rs1: 0, rs2: 1 }
+01ef9033 Register { op: Sll, rd: 0, rs1: 31, rs2: 30 }
+003120b3 Register { op: Slt, rd: 1, rs1: 2, rs2: 3 }
+00103fb3 Register { op: Sltu, rd: 31, rs1: 0, rs2: 1 }
+01efc033 Register { op: Xor, rd: 0, rs1: 31, rs2: 30 }
+003150b3 Register { op: Srl, rd: 1, rs1: 2, rs2: 3 }
+40105fb3 Register { op: Sra, rd: 31, rs1: 0, rs2: 1 }
+01efe033 Register { op: Or, rd: 0, rs1: 31, rs2: 30 }
+003170b3 Register { op: And, rd: 1, rs1: 2, rs2: 3 }
+02100fb3 Register { op: Mul, rd: 31, rs1: 0, rs2: 1 }
+03ef9033 Register { op: Mulh, rd: 0, rs1: 31, rs2: 30 }
+023120b3 Register { op: Mulhsu, rd: 1, rs1: 2, rs2: 3 }
+02103fb3 Register { op: Mulhu, rd: 31, rs1: 0, rs2: 1 }
+03efc033 Register { op: Div, rd: 0, rs1: 31, rs2: 30 }
+023150b3 Register { op: Divu, rd: 1, rs1: 2, rs2: 3 }
+02106fb3 Register { op: Rem, rd: 31, rs1: 0, rs2: 1 }
+03eff033 Register { op: Remu, rd: 0, rs1: 31, rs2: 30 }
+0ff0000f Fence { rd: 0, rs1: 0, imm: 255 }
+8330000f Fence { rd: 0, rs1: 0, imm: -1997 }
+00000073 Ecall
+00100073 Ebreak
+";
 
-fn jal(rd: u8, imm: i32) -> Instr {
-    Instr::Jal { rd, imm }
-}
-
-fn jalr(rd: u8, rs1: u8, imm: i32) -> Instr {
-    Instr::Jalr { rd, rs1, imm }
-}
-
-fn branch(op: BranchOp, rs1: u8, rs2: u8, imm: i32) -> Instr {
-    Instr::Branch { op, rs1, rs2, imm }
-}
-
-fn load(op: LoadOp, rd: u8, rs1: u8, imm: i32) -> Instr {
-    Instr::Load { op, rd, rs1, imm }
-}
-
-fn store(op: StoreOp, rs1: u8, rs2: u8, imm: i32) -> Instr {
-    Instr::Store { op, rs1, rs2, imm }
-}
-
-fn immediate(op: ImmediateOp, rd: u8, rs1: u8, imm: i32) -> Instr {
-    Instr::Immediate { op, rd, rs1, imm }
-}
-
-fn shift(op: ShiftOp, rd: u8, rs1: u8, amount: u8) -> Instr {
-    Instr::Shift {
-        op,
-        rd,
-        rs1,
-        amount,
-    }
-}
-
-fn register(op: RegisterOp, rd: u8, rs1: u8, rs2: u8) -> Instr {
-    Instr::Register { op, rd, rs1, rs2 }
-}
-
-fn fence(rd: u8, rs1: u8, imm: i32) -> Instr {
-    Instr::Fence { rd, rs1, imm }
-}
+/// Words of no instruction, and what is wrong with them.
+static OTHERS: &str = "\
+00000000 of one bit all over
+ffffffff of one bit all over
+043100b3 funct7 2
+423100b3 funct7 0x21
+403110b3 SLL with funct7 0x20
+40311093 SLLI with funct7 0x20
+02005013 SRLI with bit 25
+00001067 JALR with funct3 1
+00002063 a branch with funct3 2
+00003003 a load with funct3 3
+00003023 a store with funct3 3
+0000100f FENCE.I
+000000f3 ECALL with a register
+00200073 URET
+00001073 CSRRW
+003100b2 a word of 16 bits
+";
 
 /// The word is the instruction, and the instruction has the word.
-fn assert_is(rt: &impl Abort, word: u32, want: Instr) {
-    let got = decode(word);
-    assert!(rt; got == Some(want), "at {word}");
-    if let Some(i) = got {
-        assert_eq!(rt; encode(i), word);
-    }
+fn assert_is(rt: &impl Abort, alloc: Global, line: &str) -> Result<(), Fail> {
+    let (first, want) = parts(rt, line);
+    let word = word(rt, first);
+    let Some(found) = decode(word) else {
+        panic!(rt; "no instruction: {line}");
+    };
+    let shown = format!(in alloc; "{found:?}")?;
+    assert_eq!(rt; shown.as_str(), want);
+    assert_eq!(rt; encode(found), word, "{want}");
+    Ok(())
 }
 
 #[test]
-fn upper_and_jumps(rt: HostRuntime) {
-    for (word, want) in [
-        (0x0000_00b7, upper(UpperOp::Lui, 1, 0x0)),
-        (0xffff_ffb7, upper(UpperOp::Lui, 31, 0xfffff)),
-        (0x1234_5537, upper(UpperOp::Lui, 10, 0x12345)),
-        (0x0000_0097, upper(UpperOp::Auipc, 1, 0x0)),
-        (0xffff_ff97, upper(UpperOp::Auipc, 31, 0xfffff)),
-        (0x1234_5517, upper(UpperOp::Auipc, 10, 0x12345)),
-        (0xffdf_f06f, jal(0, -4)),
-        (0x8000_00ef, jal(1, -1048576)),
-        (0x7fff_ffef, jal(31, 1048574)),
-        (0x0010_00ef, jal(1, 2048)),
-        (0x0000_12ef, jal(5, 4096)),
-        (0x0020_00ef, jal(1, 2)),
-        (0x0000_8067, jalr(0, 1, 0)),
-        (0x7fff_0fe7, jalr(31, 30, 2047)),
-        (0x800f_80e7, jalr(1, 31, -2048)),
-    ] {
-        assert_is(&rt, word, want);
+fn words_are_instructions(rt: HostRuntime) -> Result<(), Fail> {
+    for line in INSTRUCTIONS.lines() {
+        assert_is(&rt, rt.alloc(), line)?;
     }
-}
-
-#[test]
-fn branches(rt: HostRuntime) {
-    for (word, want) in [
-        (0xfe20_8ce3, branch(BranchOp::Beq, 1, 2, -8)),
-        (0xfe64_8fe3, branch(BranchOp::Beq, 9, 6, -2)),
-        (0x7e0f_9fe3, branch(BranchOp::Bne, 31, 0, 4094)),
-        (0x0083_90e3, branch(BranchOp::Bne, 7, 8, 2048)),
-        (0x81f0_4063, branch(BranchOp::Blt, 0, 31, -4096)),
-        (0xfe64_cfe3, branch(BranchOp::Blt, 9, 6, -2)),
-        (0xfe20_dce3, branch(BranchOp::Bge, 1, 2, -8)),
-        (0x0083_d0e3, branch(BranchOp::Bge, 7, 8, 2048)),
-        (0x7e0f_efe3, branch(BranchOp::Bltu, 31, 0, 4094)),
-        (0xfe64_efe3, branch(BranchOp::Bltu, 9, 6, -2)),
-        (0x81f0_7063, branch(BranchOp::Bgeu, 0, 31, -4096)),
-        (0x0083_f0e3, branch(BranchOp::Bgeu, 7, 8, 2048)),
-    ] {
-        assert_is(&rt, word, want);
-    }
-}
-
-#[test]
-fn loads_and_stores(rt: HostRuntime) {
-    for (word, want) in [
-        (0x800f_8083, load(LoadOp::Lb, 1, 31, -2048)),
-        (0x0081_0f83, load(LoadOp::Lb, 31, 2, 8)),
-        (0x7fff_9083, load(LoadOp::Lh, 1, 31, 2047)),
-        (0x0001_1f83, load(LoadOp::Lh, 31, 2, 0)),
-        (0xffff_a083, load(LoadOp::Lw, 1, 31, -1)),
-        (0x0011_2f83, load(LoadOp::Lw, 31, 2, 1)),
-        (0x800f_c083, load(LoadOp::Lbu, 1, 31, -2048)),
-        (0x0081_4f83, load(LoadOp::Lbu, 31, 2, 8)),
-        (0x7fff_d083, load(LoadOp::Lhu, 1, 31, 2047)),
-        (0x0001_5f83, load(LoadOp::Lhu, 31, 2, 0)),
-        (0x801f_8023, store(StoreOp::Sb, 31, 1, -2048)),
-        (0x01f1_0423, store(StoreOp::Sb, 2, 31, 8)),
-        (0x7e1f_9fa3, store(StoreOp::Sh, 31, 1, 2047)),
-        (0x01f1_1023, store(StoreOp::Sh, 2, 31, 0)),
-        (0xfe1f_afa3, store(StoreOp::Sw, 31, 1, -1)),
-        (0x01f1_2fa3, store(StoreOp::Sw, 2, 31, 31)),
-    ] {
-        assert_is(&rt, word, want);
-    }
-}
-
-#[test]
-fn immediates(rt: HostRuntime) {
-    for (word, want) in [
-        (0x800f_8093, immediate(ImmediateOp::Addi, 1, 31, -2048)),
-        (0x02a0_0513, immediate(ImmediateOp::Addi, 10, 0, 42)),
-        (0x7fff_a093, immediate(ImmediateOp::Slti, 1, 31, 2047)),
-        (0x0010_2513, immediate(ImmediateOp::Slti, 10, 0, 1)),
-        (0xffff_b093, immediate(ImmediateOp::Sltiu, 1, 31, -1)),
-        (0x0000_3513, immediate(ImmediateOp::Sltiu, 10, 0, 0)),
-        (0x800f_c093, immediate(ImmediateOp::Xori, 1, 31, -2048)),
-        (0x02a0_4513, immediate(ImmediateOp::Xori, 10, 0, 42)),
-        (0x7fff_e093, immediate(ImmediateOp::Ori, 1, 31, 2047)),
-        (0x0010_6513, immediate(ImmediateOp::Ori, 10, 0, 1)),
-        (0xffff_f093, immediate(ImmediateOp::Andi, 1, 31, -1)),
-        (0x0000_7513, immediate(ImmediateOp::Andi, 10, 0, 0)),
-        (0x01ff_9093, shift(ShiftOp::Slli, 1, 31, 31)),
-        (0x0000_9f93, shift(ShiftOp::Slli, 31, 1, 0)),
-        (0x01ff_d093, shift(ShiftOp::Srli, 1, 31, 31)),
-        (0x0000_df93, shift(ShiftOp::Srli, 31, 1, 0)),
-        (0x41ff_d093, shift(ShiftOp::Srai, 1, 31, 31)),
-        (0x4000_df93, shift(ShiftOp::Srai, 31, 1, 0)),
-    ] {
-        assert_is(&rt, word, want);
-    }
-}
-
-#[test]
-fn registers(rt: HostRuntime) {
-    for (word, want) in [
-        (0x0031_00b3, register(RegisterOp::Add, 1, 2, 3)),
-        (0x4010_0fb3, register(RegisterOp::Sub, 31, 0, 1)),
-        (0x01ef_9033, register(RegisterOp::Sll, 0, 31, 30)),
-        (0x0031_20b3, register(RegisterOp::Slt, 1, 2, 3)),
-        (0x0010_3fb3, register(RegisterOp::Sltu, 31, 0, 1)),
-        (0x01ef_c033, register(RegisterOp::Xor, 0, 31, 30)),
-        (0x0031_50b3, register(RegisterOp::Srl, 1, 2, 3)),
-        (0x4010_5fb3, register(RegisterOp::Sra, 31, 0, 1)),
-        (0x01ef_e033, register(RegisterOp::Or, 0, 31, 30)),
-        (0x0031_70b3, register(RegisterOp::And, 1, 2, 3)),
-        (0x0210_0fb3, register(RegisterOp::Mul, 31, 0, 1)),
-        (0x03ef_9033, register(RegisterOp::Mulh, 0, 31, 30)),
-        (0x0231_20b3, register(RegisterOp::Mulhsu, 1, 2, 3)),
-        (0x0210_3fb3, register(RegisterOp::Mulhu, 31, 0, 1)),
-        (0x03ef_c033, register(RegisterOp::Div, 0, 31, 30)),
-        (0x0231_50b3, register(RegisterOp::Divu, 1, 2, 3)),
-        (0x0210_6fb3, register(RegisterOp::Rem, 31, 0, 1)),
-        (0x03ef_f033, register(RegisterOp::Remu, 0, 31, 30)),
-    ] {
-        assert_is(&rt, word, want);
-    }
-}
-
-#[test]
-fn system(rt: HostRuntime) {
-    for (word, want) in [
-        (0x0ff0_000f, fence(0, 0, 255)),
-        (0x8330_000f, fence(0, 0, -1997)),
-        (0x0000_0073, Instr::Ecall),
-        (0x0010_0073, Instr::Ebreak),
-    ] {
-        assert_is(&rt, word, want);
-    }
+    Ok(())
 }
 
 #[test]
 fn words_without_a_row(rt: HostRuntime) {
-    for word in [
-        0x0000_0000,
-        0xffff_ffff,
-        0x0431_00b3, // funct7 2
-        0x4231_00b3, // funct7 0x21
-        0x4031_10b3, // SLL with funct7 0x20
-        0x4031_1093, // SLLI with funct7 0x20
-        0x0200_5013, // SRLI with bit 25
-        0x0000_1067, // JALR with funct3 1
-        0x0000_2063, // a branch with funct3 2
-        0x0000_3003, // a load with funct3 3
-        0x0000_3023, // a store with funct3 3
-        0x0000_100f, // FENCE.I
-        0x0000_00f3, // ECALL with a register
-        0x0020_0073, // URET
-        0x0000_1073, // CSRRW
-        0x0031_00b2, // a word of 16 bits
-    ] {
-        assert!(rt; decode(word).is_none(), "at {word}");
+    for line in OTHERS.lines() {
+        let word = word(&rt, parts(&rt, line).0);
+        assert!(rt; decode(word).is_none(), "{line}");
     }
 }

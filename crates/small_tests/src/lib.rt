@@ -4,11 +4,15 @@
 #[cfg(test)]
 mod channels;
 #[cfg(test)]
+mod codes;
+#[cfg(test)]
+mod crossing;
+#[cfg(test)]
 mod forms;
 #[cfg(test)]
-mod images;
+mod hosts;
 #[cfg(test)]
-mod routines;
+mod samples;
 #[cfg(test)]
 mod schedules;
 #[cfg(test)]

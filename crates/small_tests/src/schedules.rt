@@ -1,10 +1,14 @@
+//! Schedules as texts. Which texts are none is shown by the real program (`tests/program`).
+ghost use Rattle.std.specs.Prelude.{◌≤◌};
+
 use al_event::Entry;
 use al_host::{Host, MemHost, MemSink};
 use al_trace::{TraceStop, read, write};
 use std::alloc::Global;
+use std::process::Abort;
 use std::test::Fail;
 
-const ENTRIES: [Entry; 2] = [
+static ENTRIES: [Entry; 2] = [
     Entry {
         proc: 0,
         pick: 0,
@@ -33,22 +37,18 @@ fn host_of(alloc: Global, text: &[u8], fail: &[u64]) -> Result<MemHost, Fail> {
     }
 }
 
-/// The number of entries of a text, or why there are none.
-fn count_of(alloc: Global, text: &[u8]) -> Result<Result<usize, TraceStop>, Fail> {
-    let mut host = host_of(alloc, text, &[])?;
-    match read(alloc, &mut host) {
-        Ok(entries) => Ok(Ok(entries.len())),
-        Err(stop) => Ok(Err(stop)),
-    }
+/// A sink of this room that takes so many bytes at a time, and whose writes of these numbers are faults.
+fn sink_of(alloc: Global, room: u32, most: u32, fail: &[u64]) -> Result<MemSink, Fail>
+    requires { 1 ≤ most }
+{
+    let fail = Vec::from_slice(alloc, fail)?;
+    Ok(MemSink::new(alloc, room, most, fail)?)
 }
 
 #[test]
 fn a_text_is_written_whatever_the_pieces(rt: HostRuntime) -> Result<(), Fail> {
-    let alloc = rt.alloc();
     for most in [1, 7, 100] {
-        let mut sink = MemSink::new(alloc, 100, most, Vec::new(alloc))
-            .ok()
-            .ok_or("memory")?;
+        let mut sink = sink_of(rt.alloc(), 100, most, &[])?;
         assert!(rt; write(&ENTRIES, &mut sink).is_ok());
         assert_eq!(rt; sink.got(), TEXT);
     }
@@ -57,85 +57,25 @@ fn a_text_is_written_whatever_the_pieces(rt: HostRuntime) -> Result<(), Fail> {
 
 #[test]
 fn a_fault_leaves_a_front(rt: HostRuntime) -> Result<(), Fail> {
-    let alloc = rt.alloc();
-    let fail = Vec::from_slice(alloc, &[3])?;
-    let mut sink = MemSink::new(alloc, 100, 16, fail).ok().ok_or("memory")?;
+    let mut sink = sink_of(rt.alloc(), 100, 16, &[3])?;
     assert!(rt; write(&ENTRIES, &mut sink).is_err());
     assert_eq!(rt; sink.got(), &TEXT[..32]);
     Ok(())
 }
 
+/// The entries of a text.
+fn entries_of(alloc: Global, text: &[u8]) -> Result<Vec<Entry>, Fail> {
+    let mut host = host_of(alloc, text, &[])?;
+    match read(alloc, &mut host) {
+        Ok(entries) => Ok(entries),
+        Err(_) => Err("a schedule".into()),
+    }
+}
+
 #[test]
 fn a_text_is_read(rt: HostRuntime) -> Result<(), Fail> {
-    let alloc = rt.alloc();
-    let mut host = host_of(alloc, TEXT, &[])?;
-    let entries = read(alloc, &mut host).ok().ok_or("a schedule")?;
+    let entries = entries_of(rt.alloc(), TEXT)?;
     assert_eq!(rt; entries.as_slice(), ENTRIES.as_slice());
-    Ok(())
-}
-
-/// Texts that are no schedule, and their first line that is not right.
-const BAD_LINES: [(&[u8], u64); 27] = [
-    (b"", 1),
-    (b"alef-schedule 1", 1),
-    (b"alef-schedule 2\n", 1),
-    (b"alef-schedule 1 \n", 1),
-    (b"\nalef-schedule 1\n", 1),
-    (b"alef-schedule 1000000000\n", 1),
-    (b"alef-schedule 1\n0 0 0\nx\n", 3),
-    (b"alef-schedule 1\n0 0 0\n0 0 0", 3),
-    (b"alef-schedule 1\n0 0 0\n\n", 3),
-    (b"alef-schedule 1\n\n", 2),
-    (b"alef-schedule 1\n0 0\n", 2),
-    (b"alef-schedule 1\n0 0 0 0\n", 2),
-    (b"alef-schedule 1\n0  0 0\n", 2),
-    (b"alef-schedule 1\n 0 0 0\n", 2),
-    (b"alef-schedule 1\n0 0 0 \n", 2),
-    (b"alef-schedule 1\n0 0 0\r\n", 2),
-    (b"alef-schedule 1\n00 0 0\n", 2),
-    (b"alef-schedule 1\n0 00 0\n", 2),
-    (b"alef-schedule 1\n0 0 00\n", 2),
-    (b"alef-schedule 1\n+1 0 0\n", 2),
-    (b"alef-schedule 1\n-1 0 0\n", 2),
-    (b"alef-schedule 1\n4294967296 0 0\n", 2),
-    (b"alef-schedule 1\n0 65536 0\n", 2),
-    (b"alef-schedule 1\n0 0 64\n", 2),
-    (b"alef-schedule 1\n18446744073709551616 0 0\n", 2),
-    (b"alef-schedule 1\n4294967295 65535 063\n", 2),
-    (
-        b"alef-schedule 1\n0 0 0\n4294967295 65535 63\n99999999999999999999",
-        4,
-    ),
-];
-
-#[test]
-fn other_texts_are_refused_at_their_line(rt: HostRuntime) -> Result<(), Fail> {
-    for (text, line) in BAD_LINES {
-        assert_eq!(rt;
-            count_of(rt.alloc(), text)?,
-            Err(TraceStop::BadLine(line)),
-            "line {line}"
-        );
-    }
-    Ok(())
-}
-
-#[test]
-fn a_front_is_refused_unless_it_ends_a_line(rt: HostRuntime) -> Result<(), Fail> {
-    for len in 0..TEXT.len() {
-        let expected = match len {
-            0..=15 => Err(TraceStop::BadLine(1)),
-            16 => Ok(0),
-            17..=21 => Err(TraceStop::BadLine(2)),
-            22 => Ok(1),
-            _ => Err(TraceStop::BadLine(3)),
-        };
-        assert_eq!(rt;
-            count_of(rt.alloc(), &TEXT[..len])?,
-            expected,
-            "{len} bytes"
-        );
-    }
     Ok(())
 }
 
@@ -161,34 +101,26 @@ fn many_entries(alloc: Global) -> Result<Vec<Entry>, Fail> {
     Ok(entries)
 }
 
-fn large_text(alloc: Global, entries: &[Entry]) -> Result<MemSink, Fail> {
-    let mut sink = MemSink::new(alloc, 1 << 26, 1 << 26, Vec::new(alloc))
-        .ok()
-        .ok_or("memory")?;
-    match write(entries, &mut sink) {
-        Ok(()) => Ok(sink),
-        Err(_) => Err("room".into()),
-    }
+/// Writes entries, whose text has 52,759,498 bytes.
+fn large_text(rt: &impl Abort, alloc: Global, entries: &[Entry]) -> Result<MemSink, Fail> {
+    let mut sink = sink_of(alloc, 1 << 26, 1 << 26, &[])?;
+    assert!(rt; write(entries, &mut sink).is_ok());
+    assert_eq!(rt; sink.got().len(), 52_759_498);
+    Ok(sink)
 }
 
 #[test]
 fn a_large_schedule_is_written(rt: HostRuntime) -> Result<(), Fail> {
-    let alloc = rt.alloc();
-    let entries = many_entries(alloc)?;
-    assert_eq!(rt;
-        large_text(alloc, entries.as_slice())?.got().len(),
-        52_759_498
-    );
+    let entries = many_entries(rt.alloc())?;
+    let _sink = large_text(&rt, rt.alloc(), entries.as_slice())?;
     Ok(())
 }
 
 #[test]
 fn a_large_schedule_is_read(rt: HostRuntime) -> Result<(), Fail> {
-    let alloc = rt.alloc();
-    let entries = many_entries(alloc)?;
-    let sink = large_text(alloc, entries.as_slice())?;
-    let mut host = host_of(alloc, sink.got(), &[])?;
-    let again = read(alloc, &mut host).ok().ok_or("a schedule")?;
+    let entries = many_entries(rt.alloc())?;
+    let sink = large_text(&rt, rt.alloc(), entries.as_slice())?;
+    let again = entries_of(rt.alloc(), sink.got())?;
     assert_eq!(rt; again.as_slice(), entries.as_slice());
     Ok(())
 }

@@ -7,8 +7,6 @@ mod proc;
 mod queue;
 mod starting;
 mod tasks;
-#[cfg(test)]
-mod tests;
 
 pub use ending::Ended;
 pub use tasks::{StartFault, Tasks};

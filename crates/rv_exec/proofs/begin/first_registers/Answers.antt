@@ -14,7 +14,7 @@ far n h = grind (arith, common_steps)
 
 -- the first registers, as an array
 array : List ℕ
-array = 0 ∷ 4194304 ∷ 67108864 ∷ 4096 ∷ 83886080 ∷ replicate 27 0
+array = 0 ∷ 4194304 ∷ 67108864 ∷ 4096 ∷ 83886080 ∷ replicate 28 0
 
 first : (n : ℕ) → slice_index array n ≡ first_registers n
 unfolding array
@@ -23,7 +23,7 @@ first (suc zero) = refl
 first (suc (suc zero)) = refl
 first (suc (suc (suc zero))) = refl
 first (suc (suc (suc (suc zero)))) = refl
-first (suc (suc (suc (suc (suc n))))) = zeros 27 n ∙ sym (far (suc (suc (suc (suc (suc n))))) (omega arith))
+first (suc (suc (suc (suc (suc n))))) = zeros 28 n ∙ sym (far (suc (suc (suc (suc (suc n))))) (omega arith))
 
 pub returns : goal.returns
 unfolding array

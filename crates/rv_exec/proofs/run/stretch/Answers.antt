@@ -1,10 +1,10 @@
-use Rattle.std.proofs.Common.{◌≡◌, ℕ, ◌+◌, ◌<◌, ◌≤◌, ◌∙◌, ◌++◌, List, ap, take, drop, length, arith}
+use Rattle.std.proofs.Common.{◌≡◌, ℕ, ◌∙◌, ◌++◌, List, ap, take, drop, length, arith}
 use Rattle.std.proofs.lemmas.Grind.{common_steps}
 use Rattle.rv_exec.specs.Calls.{Goes, Asks}
 use Rattle.rv_exec.specs.Step.{step}
-use Rattle.rv_exec.specs.Machine.{ask, asked, longest_stretch}
+use Rattle.rv_exec.specs.Machine.{ask, asked}
 use Rattle.rv_exec.specs.Seen.{seen, words_of}
-use Rattle.rv_exec.proofs.Stepping.{goes_on, asks_act, ends}
+use Rattle.rv_exec.proofs.Stepping.{goes_on, asks_act}
 use Rattle.rv_exec.proofs.run.stretch.Goals as goal
 
 -- the words that were lent as a slice, given back
@@ -14,40 +14,36 @@ given_back lent words n m e = grind (arith, common_steps)
 pub returns-in-Ok-Some-clause-asked : goal.returns-in-Ok-Some-clause-asked
 returns-in-Ok-Some-clause-asked c =
     let image = c.contents-contents.result.now in
-    let h = seen c.loop-done.state in
-    let p = words_of c.loop-done.words.items in
+    let before = seen c.loop-state.state in
+    let h = seen c.run.new.self in
+    let p = words_of c.run.new.privates in
     let act = c.in-Ok-Some.act in
     let next = seen c.step.new.self in
-    let less : h.work < longest_stretch = omega arith in
-    let moved = rw c.in-Ok-Some.field-0-is at c.in-Ok-Some.ensures.asked in
-    let steps : Asks act next (words_of c.step.new.privates) ≡ step image h p = moved ∙ ap (λ ws. step image h (words_of ws)) c.as_mut_slice.ensures.value in
-    let long : c.loop-done.words.len ≡ length c.step.new.privates = omega (arith, c.step.auto.privates, c.as_mut_slice.ensures.len) in
-    let back = given_back c.step.new.privates c.loop-done.words.items c.loop-done.words.len (length c.step.new.privates) long in
+    let lent = c.step.new.privates in
+    let same : ask image h p ≡ ask image before (words_of c.as_mut_slice-slots.result.now) = rw c.contents-contents.ensures.value c.run.ensures.same in
+    let steps : Asks act next (words_of lent) ≡ step image h p = rw c.in-Ok-Some.field-0-is at c.in-Ok-Some.ensures.asked in
+    let long : c.loop-state.words.len ≡ length lent = omega (arith, c.step.auto.privates, c.run.auto.privates, c.as_mut_slice-slots.ensures.len) in
+    let back = given_back lent c.loop-state.words.items c.loop-state.words.len (length lent) long in
     rw (← c.contents-contents.ensures.value)
-    (c.asking.ensures.asked image ∙ ap (λ ws. asked image act next (words_of ws)) back ∙ asks_act image h p act next (words_of c.step.new.privates) less steps ∙ c.loop-done.invariant.same)
+    (c.asking.ensures.asked image ∙ ap (λ ws. asked image act next (words_of ws)) back ∙ asks_act image h p act next (words_of lent) c.run.ensures.most steps
+    ∙ same ∙ ap (λ ws. ask image before (words_of ws)) c.as_mut_slice-slots.ensures.value ∙ c.loop-state.invariant.same)
 
-pub loop-done-preserved : goal.loop-done-preserved
-loop-done-preserved c =
+pub loop-state-preserved : goal.loop-state-preserved
+loop-state-preserved c =
     let image = c.contents-contents.result.now in
-    let h = seen c.loop-done.state in
-    let p = words_of c.loop-done.words.items in
+    let before = seen c.loop-state.state in
+    let h = seen c.run.new.self in
+    let p = words_of c.run.new.privates in
     let next = seen c.step.new.self in
-    let less : h.work < longest_stretch = omega arith in
-    let moved = rw c.in-Ok-None.field-0-is at c.in-Ok-None.ensures.asked in
+    let lent = c.step.new.privates in
+    let same : ask image h p ≡ ask image before (words_of c.as_mut_slice-slots.result.now) = rw c.contents-contents.ensures.value c.run.ensures.same in
     let work = rw c.in-Ok-None.field-0-is at c.in-Ok-None.ensures.work in
-    let steps : Goes next (words_of c.step.new.privates) ≡ step image h p = moved ∙ ap (λ ws. step image h (words_of ws)) c.as_mut_slice.ensures.value in
-    let long : c.loop-done.words.len ≡ length c.step.new.privates = omega (arith, c.step.auto.privates, c.as_mut_slice.ensures.len) in
-    let back = given_back c.step.new.privates c.loop-done.words.items c.loop-done.words.len (length c.step.new.privates) long in
+    let steps : Goes next (words_of lent) ≡ step image h p = rw c.in-Ok-None.field-0-is at c.in-Ok-None.ensures.asked in
+    let long : c.loop-state.words.len ≡ length lent = omega (arith, c.step.auto.privates, c.run.auto.privates, c.as_mut_slice-slots.ensures.len) in
+    let back = given_back lent c.loop-state.words.items c.loop-state.words.len (length lent) long in
     record {
-      same = ap (λ ws. ask image next (words_of ws)) back ∙ goes_on image h p next (words_of c.step.new.privates) less work steps ∙ c.loop-done.invariant.same;
-      work = work ∙ ap (λ n. n + 1) c.loop-done.invariant.work;
-      bytes = c.loop-done.invariant.bytes;
+      same =
+          ap (λ ws. ask image next (words_of ws)) back ∙ goes_on image h p next (words_of lent) c.run.ensures.most work steps
+          ∙ same ∙ ap (λ ws. ask image before (words_of ws)) c.as_mut_slice-slots.ensures.value ∙ c.loop-state.invariant.same;
+      bytes = c.loop-state.invariant.bytes;
     }
-
-pub returns-clause-asked : goal.returns-clause-asked
-returns-clause-asked c =
-    let image = c.contents-contents.result.now in
-    let h = seen c.loop-done.state in
-    let p = words_of c.loop-done.words.items in
-    let more : longest_stretch ≤ h.work = omega arith in
-    rw (← c.contents-contents.ensures.value) (c.asking-2.ensures.asked image ∙ ends image h p more ∙ c.loop-done.invariant.same)

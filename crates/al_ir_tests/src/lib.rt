@@ -1,0 +1,2 @@
+//! Worked runs of small programs of operations, as theorems: `specs/Worked.antt` has them. Nothing here runs.
+#![tactic(auto)]

@@ -1,0 +1,5 @@
+pub mod Assigning
+pub mod Channels
+pub mod Elements
+pub mod Sending
+pub mod Objects

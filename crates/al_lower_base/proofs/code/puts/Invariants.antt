@@ -1,0 +1,9 @@
+use Rattle.std.proofs.Common.{◌≡◌, ◌++◌}
+use Rattle.al_lower_code.specs.Moving.{puts}
+use Rattle.al_lower_base.proofs.code.puts.Given as goal
+
+abbrev pub invariant-loop-left : goal.invariant-loop-left
+invariant-loop-left l = l.code ++ puts l.line l.into l.of l.left ≡ l.fn.code ++ puts l.line l.place l.from l.n
+
+abbrev pub decreases-loop-left : goal.decreases-loop-left
+decreases-loop-left l = l.left

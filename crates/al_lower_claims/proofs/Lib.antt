@@ -1,0 +1,11 @@
+pub mod Homes
+pub mod Variables
+pub mod Moving
+pub mod Storing
+pub mod Claims
+pub mod Operands
+pub mod Plain
+pub mod Privates
+pub mod Reading
+pub mod Places
+pub mod Saving

@@ -1,0 +1,3 @@
+pub mod RowItems
+pub mod Alikes
+pub mod FunctionTypes

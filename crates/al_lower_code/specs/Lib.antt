@@ -1,0 +1,12 @@
+pub mod Homes
+pub mod Moving
+pub mod Operators
+pub mod Coded
+pub mod Values
+pub mod Classes
+pub mod Actions
+pub mod Expressions
+pub mod Simple
+pub mod Heads
+pub mod Statements
+pub mod Functions

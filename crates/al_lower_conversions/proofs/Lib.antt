@@ -1,0 +1,7 @@
+pub mod Sizes
+pub mod Wrapping
+pub mod Same
+pub mod Integers
+pub mod Words
+pub mod Parts
+pub mod Unary

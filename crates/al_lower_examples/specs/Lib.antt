@@ -1,0 +1,6 @@
+mod Forms
+mod Channels
+mod Jumps
+mod Loops
+mod Storage
+mod Words

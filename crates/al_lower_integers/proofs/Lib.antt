@@ -1,0 +1,3 @@
+pub mod Constants
+pub mod Negations
+pub mod Movements

@@ -1,0 +1,10 @@
+pub mod Slots
+pub mod Steps
+pub mod Plain
+pub mod Jumps
+pub mod Actions
+pub mod Storage
+pub mod Calls
+pub mod Texts
+pub mod Functions
+pub mod Lowered

@@ -1,0 +1,4 @@
+pub mod Does
+pub mod Alike
+pub mod Units
+pub mod Chain

@@ -1,0 +1,4 @@
+pub mod After
+pub mod Rules
+pub mod Same
+pub mod Lowered

@@ -1,0 +1,11 @@
+pub mod Turns
+pub mod Places
+pub mod Changes
+pub mod Heights
+pub mod Room
+pub mod Held
+pub mod Joins
+pub mod Turning
+pub mod Reading
+pub mod Growing
+pub mod Sizes

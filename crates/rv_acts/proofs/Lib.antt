@@ -1,0 +1,10 @@
+pub mod Asking
+pub mod Calling
+pub mod Simple
+pub mod Texts
+pub mod Units
+pub mod Stores
+pub mod Blocks
+pub mod Frees
+pub mod Decimals
+pub mod Numbers

@@ -1,0 +1,12 @@
+pub mod Leading
+pub mod Access
+pub mod Slots
+pub mod Operands
+pub mod Jumps
+pub mod Laying
+pub mod Routines
+pub mod Pairs
+pub mod Numbers
+pub mod Globals
+pub mod Frames
+pub mod Turns

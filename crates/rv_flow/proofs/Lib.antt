@@ -1,0 +1,10 @@
+pub mod Jumping
+pub mod Turning
+pub mod Returning
+pub mod Passing
+pub mod Testing
+pub mod Entering
+pub mod Invoking
+pub mod Starting
+pub mod Becoming
+pub mod Comparing

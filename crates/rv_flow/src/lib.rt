@@ -1,0 +1,2 @@
+//! Why harts follow jumps, turns, calls and returns: lemmas on the instructions of each, in proofs/.
+#![tactic(auto)]

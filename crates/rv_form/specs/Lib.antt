@@ -1,0 +1,10 @@
+pub mod Layout
+pub mod Words
+pub mod Longs
+pub mod Flow
+pub mod Units
+pub mod Acts
+pub mod Texts
+pub mod Dispatch
+pub mod Template
+pub mod Program

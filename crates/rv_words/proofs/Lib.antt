@@ -1,0 +1,13 @@
+pub mod Straight
+pub mod Values
+pub mod Computing
+pub mod Instructions
+pub mod Words
+pub mod Singles
+pub mod Moves
+pub mod Constants
+pub mod Bys
+pub mod Parts
+pub mod Doubles
+pub mod Pointers
+pub mod Distances
