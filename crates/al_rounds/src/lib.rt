@@ -1,4 +1,4 @@
-//! Rounds: a world runs on up to a number of entries.
+//! One worker runs a world on, by a gate; what is later in its run.
 #![tactic(auto)]
 
 mod gate;
@@ -7,4 +7,4 @@ mod one_worker;
 
 pub use gate::{Gate, OpenGate};
 pub use law::output_stays;
-pub use one_worker::{go_alone, round};
+pub use one_worker::go_alone;

@@ -1,43 +1,24 @@
-//! A round of one worker, on the caller's thread.
+//! One worker, on the caller's thread.
 
-ghost use Rattle.std.specs.Prelude.{◌≡◌, ◌≢◌, ◌⊎◌, ◌+◌, ◌<◌, ◌≤◌, ℕ, None, IsSome, IsNone, IfOk, OnOk, length};
+ghost use Rattle.std.specs.Prelude.{◌≡◌, ◌≢◌, ◌⊎◌, ◌+◌, ◌<◌, ◌≤◌, ℕ, None, IsSome, IfOk, OnOk, length};
 ghost use Rattle.al_core.specs.History.{over_of, loan_of, away};
 ghost use Rattle.al_core.specs.Lends.{IsLent, MatchAfter};
 ghost use Rattle.al_rounds.specs.Later.{IsLater};
 
-use crate::gate::{Gate, OpenGate};
+use crate::gate::Gate;
 use al_base::NoMemory;
 use al_core::{After, Next, World};
 use rv_exec::Held;
 use std::alloc::Global;
 
-/// The one worker of a round.
+/// The one worker.
 const WORKER: u8 = 0;
 
 /// After so many entries in a row a proc gives others their turn.
 const MOST_IN_A_ROW: u32 = 64;
 
-/// Runs a world on, on this thread as worker 0, until it is over or has `quota` entries. A world that lacked memory may be
-/// looked at, and not run on.
-pub fn round(alloc: Global, world: World, quota: u64) -> (World, Option<NoMemory>)
-    requires here { away world ≡ 0 }
-    requires least { length world.entries ≤ quota }
-    requires most { quota ≤ world.limit }
-    ensures later { IsLater 0 (record world { quota = quota }) result.0 }
-    // Where there is memory the round is done whole.
-    ensures done { IsNone result.1 → (IsSome (over_of result.0) ⊎ (length result.0.entries ≡ quota)) }
-    ensures here { IsNone result.1 → away result.0 ≡ 0 }
-{
-    let mut world = world;
-    world.allow(quota);
-    match go_alone(alloc, &OpenGate, &mut world, 0) {
-        Ok(()) => (world, None),
-        Err(no_memory) => (world, Some(no_memory)),
-    }
-}
-
 /// Runs a world on, on this thread as worker 0, until it is over or has as many entries as it may have by now. The worker has
-/// made so many entries in this round, which the gate is told.
+/// made so many entries in this round, which the gate is told. A world that lacked memory may be looked at, and not run on.
 pub fn go_alone<G: Gate>(
     alloc: Global,
     gate: &G,

@@ -3,6 +3,7 @@
 
 use al_base::NoMemory;
 use al_host::{FileHost, LogSink, OutSink, Sink};
+use al_rounds::OpenGate;
 use alef_run::alef;
 use std::alloc::Global;
 use std::env;
@@ -19,12 +20,12 @@ fn main(rt: HostRuntime) -> ExitCode {
     let mut log = LogSink::new(rt.stderr());
     let status = match names(&rt, alloc) {
         Ok(names) => match words_of(alloc, &names) {
-            Ok(words) => alef(&rt, alloc, &words, &mut host, &mut out, &mut log).status,
+            Ok(words) => alef(&rt, alloc, &words, &mut host, &mut out, &mut log, &OpenGate).status,
             Err(NoMemory) => out_of_memory(&mut log),
         },
         Err(error) if error.kind() == ErrorKind::InvalidData => {
             // words that are no text are no job
-            alef(&rt, alloc, &[], &mut host, &mut out, &mut log).status
+            alef(&rt, alloc, &[], &mut host, &mut out, &mut log, &OpenGate).status
         }
         Err(_) => out_of_memory(&mut log),
     };

@@ -13,7 +13,7 @@ use Rattle.al_world.specs.Step.{opening_with, with_globals}
 use Rattle.rv_isa.specs.declared.image.Contents.{Contents}
 use Rattle.al_core.specs.Opening.{globals_of}
 use Rattle.al_core.specs.History.{History, opening, run_of, over_of, line_of, output_of, work_of, away}
-use Rattle.al_rounds.specs.Later.{IsLater, PutsOutMore}
+use Rattle.al_rounds.specs.Later.{IsMerged, PutsOutMore}
 use Rattle.al_rounds.proofs.Output.{puts_out_more}
 use Rattle.alef_run.specs.Outside.{GetsAll, GetsPart}
 use Rattle.alef_run.specs.Rounds.{history_along, IsLegal, IsOver, round_length, first_rounds, GetsRounds, IsWholeRound}
@@ -43,12 +43,12 @@ module _ (image : Contents) (region limit : ℕ) (h : History) (i : h.image ≡ 
 -- ---- between two rounds
 
 -- some rounds were run to their end, and all that they put out was written and dropped
-pub record Between (image : Contents) (region limit : ℕ) (h : History) (made : ℕ) (before got : Option (List ℕ)) (faults faults_after : ℕ) : Type 0 where
+pub record Between (image : Contents) (workers region limit : ℕ) (h : History) (made : ℕ) (before got : Option (List ℕ)) (faults faults_after : ℕ) : Type 0 where
   pub image_is : h.image ≡ image
   pub region_is : h.region ≡ region
   pub limit_is : h.limit ≡ limit
   pub here : away h ≡ 0
-  pub workers : All (λ (e : Entry). e.worker ≡ 0) h.entries
+  pub made_by : All (λ (e : Entry). e.worker < workers) h.entries
   pub made_is : made ≡ length h.entries
   pub rounds : ℕ
   pub count : length h.entries ≡ round_length * rounds
@@ -61,8 +61,8 @@ no_output : (region : ℕ) (store : Option (List Live)) → (opening_with region
 no_output region None = refl
 no_output region (Some store) = refl
 
-pub between_first : (limit : ℕ) (h : History) (before : Option (List ℕ)) (faults : ℕ) → h ≡ opening h.image h.region limit → 1 ≤ limit → Between h.image h.region limit h 0 before before faults faults
-between_first limit h before faults e some =
+pub between_first : (workers limit : ℕ) (h : History) (before : Option (List ℕ)) (faults : ℕ) → h ≡ opening h.image h.region limit → 1 ≤ limit → Between h.image workers h.region limit h 0 before before faults faults
+between_first workers limit h before faults e some =
     let entries : h.entries ≡ [] = ap (λ (h : History). h.entries) e in
     let none : output_of h ≡ [] = ap output_of e ∙ no_output _ (with_globals _ (globals_of h.image) []) in
     record {
@@ -70,7 +70,7 @@ between_first limit h before faults e some =
       region_is = refl;
       limit_is = ap (λ (h : History). h.limit) e;
       here = ap away e;
-      workers = let P : List Entry → Type 0 = All (λ (e : Entry). e.worker ≡ 0) in subst P (sym entries) (All-nil (λ (e : Entry). e.worker ≡ 0));
+      made_by = let P : List Entry → Type 0 = All (λ (e : Entry). e.worker < workers) in subst P (sym entries) (All-nil (λ (e : Entry). e.worker < workers));
       made_is = sym (ap length entries);
       rounds = 0;
       count = ap length entries;
@@ -82,9 +82,9 @@ between_first limit h before faults e some =
 
 -- ---- after a round
 
-module _ (image : Contents) (region limit made quota : ℕ) (h h' : History) (before got : Option (List ℕ)) (faults faults_after : ℕ)
-    (B : Between image region limit h made before got faults faults_after) (quota_is : quota ≡ min limit (made + round_length))
-    (later : IsLater 0 (record h { quota = quota }) h') (runs : IsSome (run_of h')) (within : length h'.entries + away h' ≤ h'.quota) where
+module _ (image : Contents) (workers region limit made quota : ℕ) (h h' : History) (before got : Option (List ℕ)) (faults faults_after : ℕ)
+    (B : Between image workers region limit h made before got faults faults_after) (quota_is : quota ≡ min limit (made + round_length))
+    (later : IsMerged workers (record h { quota = quota }) h') (runs : IsSome (run_of h')) (within : length h'.entries + away h' ≤ h'.quota) where
   abbrev pub along : History
   along = history_along image region limit h'.entries
 
@@ -116,11 +116,11 @@ module _ (image : Contents) (region limit made quota : ℕ) (h h' : History) (be
   shown_is =
       ap₂ (λ (n : ℕ) (o : List ℕ). drop n o) (later.dropped ∙ B.dropped) (is_along ∙ grown) ∙ drop_at (output_of h) more.shown (length (output_of h)) refl
 
-  pub legal : IsLegal along
+  pub legal : IsLegal workers along
   legal = record {
     runs = runs_along image region limit h' image_still region_still runs;
     most = let m = at_most in omega (arith, m, quota_is);
-    workers = let P : List Entry → Type 0 = All (λ (e : Entry). e.worker ≡ 0) in subst P (sym later.entries) (All-append (λ (e : Entry). e.worker ≡ 0) h.entries later.more B.workers later.by);
+    made_by = let P : List Entry → Type 0 = All (λ (e : Entry). e.worker < workers) in subst P (sym later.entries) (All-append (λ (e : Entry). e.worker < workers) h.entries later.more B.made_by later.by);
   }
 
   front_is : take (round_length * B.rounds) h'.entries ≡ h.entries
@@ -213,8 +213,8 @@ module _ (image : Contents) (region limit made quota : ℕ) (h h' : History) (be
     over_same : over_of next ≡ over_of h'
     over_same = ap over_of e
 
-    pub legal_next : IsLegal (history_along image region limit next.entries)
-    legal_next = let P : List Entry → Type 0 = λ entries. IsLegal (history_along image region limit entries) in subst P (sym entries_same) legal
+    pub legal_next : IsLegal workers (history_along image region limit next.entries)
+    legal_next = let P : List Entry → Type 0 = λ entries. IsLegal workers (history_along image region limit entries) in subst P (sym entries_same) legal
 
     abbrev pub EndsSo : Over → Option (List ℕ) → ℕ → List Entry → Type 0
     EndsSo over got' faults_later entries =
@@ -245,7 +245,7 @@ module _ (image : Contents) (region limit made quota : ℕ) (h h' : History) (be
 
       -- all that is shown was written and dropped, and there are to be more rounds
       pub between_next : (made' : ℕ) (got' : Option (List ℕ)) (faults_later : ℕ) → made' ≡ length h'.entries → away h' ≡ 0 → made' ≢ limit
-          → WhereTold (GetsAll (drop h'.dropped (output_of h'))) got got' → faults_later ≡ faults_after → Between image region limit next made' before got' faults faults_later
+          → WhereTold (GetsAll (drop h'.dropped (output_of h'))) got got' → faults_later ≡ faults_after → Between image workers region limit next made' before got' faults faults_later
       between_next made' got' faults_later made_is here unspent w calm =
           let full = full_round in
           let count = B.count in
@@ -256,7 +256,7 @@ module _ (image : Contents) (region limit made quota : ℕ) (h h' : History) (be
             region_is = ap (λ (h : History). h.region) e ∙ region_still;
             limit_is = ap (λ (h : History). h.limit) e ∙ later.limit ∙ B.limit_is;
             here = ap away e ∙ here;
-            workers = legal_next.workers;
+            made_by = legal_next.made_by;
             made_is = made_is ∙ sym (ap length entries_same);
             rounds = B.rounds + 1;
             count = ap length entries_same ∙ omega (arith, full, quota_is, made_is, unspent, count, before_is);

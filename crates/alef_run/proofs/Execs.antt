@@ -30,14 +30,14 @@ lacks_image job call (Ran over) l nothing = absurd l
 
 module _ (job : Job) (image : Contents) (call : Call) (end : End) (h : History) (schedule : call.schedule ≡ h.entries) (image_is : h.image ≡ image) (region_is : h.region ≡ job.region) where
   pub did_exec : WasRead job.file enough_of call → ((text : List ℕ) → text_in call.told job.file ≡ Some text → IsImage text image) → call.image ≡ Some image → call.code ≡ []
-      → IsLegal (history_along image job.region job.entries h.entries) → call.work ≡ work_of h
+      → IsLegal job.workers (history_along image job.region job.entries h.entries) → call.work ≡ work_of h
       → RanTo (history_along image job.region job.entries h.entries) end call.got_before call.got_after call.out_before call.out_after → DidExec job image call end
   did_exec read text is code legal work ran = record {
     read = read;
     text = text;
     image_is = is;
     code = code;
-    legal = let P : List Entry → Type 0 = λ entries. IsLegal (history_along image job.region job.entries entries) in subst P (sym schedule) legal;
+    legal = let P : List Entry → Type 0 = λ entries. IsLegal job.workers (history_along image job.region job.entries entries) in subst P (sym schedule) legal;
     work =
         work ∙ work_along image job.region job.entries h image_is region_is
         ∙ ap (λ (entries : List Entry). work_of (history_along image job.region job.entries entries)) (sym schedule);
@@ -70,14 +70,14 @@ no_line (Some job) (Some image) call e = absurd (cc)
 
 -- what the stages of `exec` say together
 pub exec_end : (job : Job) (image : Contents) (call : Call) (end : End) (w h : History) → w ≡ opening image job.region job.entries → h.image ≡ w.image → h.region ≡ w.region
-    → IsLegal (history_along w.image w.region job.entries h.entries)
+    → IsLegal job.workers (history_along w.image w.region job.entries h.entries)
     → RanTo (history_along w.image w.region job.entries h.entries) end call.got_before call.got_after call.out_before call.out_after
     → call.schedule ≡ h.entries → call.work ≡ work_of h → call.image ≡ Some h.image → call.code ≡ [] → WasRead job.file enough_of call
     → ((text : List ℕ) → text_in call.told job.file ≡ Some text → IsImage text image) → EndsExec job call end
 exec_end job image call end w h e i r legal ran schedule work is code read text =
     let ei : w.image ≡ image = ap (λ (h : History). h.image) e in
     let er : w.region ≡ job.region = ap (λ (h : History). h.region) e in
-    let L : Contents → ℕ → Type 0 = λ image region. IsLegal (history_along image region job.entries h.entries) in
+    let L : Contents → ℕ → Type 0 = λ image region. IsLegal job.workers (history_along image region job.entries h.entries) in
     let R : Contents → ℕ → Type 0 = λ image region. RanTo (history_along image region job.entries h.entries) end call.got_before call.got_after call.out_before call.out_after in
     let legal' : L image job.region = subst (λ (region : ℕ). L image region) er (subst (λ (image : Contents). L image w.region) ei legal) in
     let ran' : R image job.region = subst (λ (region : ℕ). R image region) er (subst (λ (image : Contents). R image w.region) ei ran) in

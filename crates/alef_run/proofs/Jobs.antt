@@ -14,6 +14,8 @@ use Rattle.al_words.specs.declared.job.Mode.{Mode}
 use Rattle.al_words.specs.declared.job.Job.{Job}
 
 pub record IsBounded (job : Job) : Type 0 where
+  pub some_workers : 1 ≤ job.workers
+  pub workers : job.workers ≤ 64
   pub some_region : 1 ≤ job.region
   pub region : job.region ≤ 256
   pub some_entries : 1 ≤ job.entries
@@ -33,13 +35,13 @@ number_within default least most n (Some text) le le' e = on (is_number text && 
         let same = same_Some (spelled 0 text) n e in
         (omega (arith, low, same), omega (arith, high, same))
 
-numbers_bounded : (mode : Mode) (g : Given) (job : Job) (w e r n : Option ℕ) → ((k : ℕ) → e ≡ Some k → (1 ≤ k) × (k ≤ 2 ^ 26)) → ((k : ℕ) → r ≡ Some k → (1 ≤ k) × (k ≤ 256)) → with_numbers mode g w e r n ≡ Some job → IsBounded job
-numbers_bounded mode g job (Some w) (Some e) (Some r) (Some n) he hr is =
-    subst IsBounded (same_Some _ job is) (record { some_region = (hr r refl).0; region = (hr r refl).1; some_entries = (he e refl).0; entries = (he e refl).1 })
-numbers_bounded mode g job None e r n he hr is = absurd (cc)
-numbers_bounded mode g job (Some w) None r n he hr is = absurd (cc)
-numbers_bounded mode g job (Some w) (Some e) None n he hr is = absurd (cc)
-numbers_bounded mode g job (Some w) (Some e) (Some r) None he hr is = absurd (cc)
+numbers_bounded : (mode : Mode) (g : Given) (job : Job) (w e r n : Option ℕ) → ((k : ℕ) → w ≡ Some k → (1 ≤ k) × (k ≤ 64)) → ((k : ℕ) → e ≡ Some k → (1 ≤ k) × (k ≤ 2 ^ 26)) → ((k : ℕ) → r ≡ Some k → (1 ≤ k) × (k ≤ 256)) → with_numbers mode g w e r n ≡ Some job → IsBounded job
+numbers_bounded mode g job (Some w) (Some e) (Some r) (Some n) hw he hr is =
+    subst IsBounded (same_Some _ job is) (record { some_workers = (hw w refl).0; workers = (hw w refl).1; some_region = (hr r refl).0; region = (hr r refl).1; some_entries = (he e refl).0; entries = (he e refl).1 })
+numbers_bounded mode g job None e r n hw he hr is = absurd (cc)
+numbers_bounded mode g job (Some w) None r n hw he hr is = absurd (cc)
+numbers_bounded mode g job (Some w) (Some e) None n hw he hr is = absurd (cc)
+numbers_bounded mode g job (Some w) (Some e) (Some r) None hw he hr is = absurd (cc)
 
 mode_bounded : (g : Given) (mode : Mode) (job : Job) → in_mode g mode ≡ Some job → IsBounded job
 mode_bounded g mode job is = on (files_in g == files_of mode) is
@@ -48,7 +50,7 @@ mode_bounded g mode job is = on (files_in g == files_of mode) is
     on false is = absurd (cc)
     on true is =
         numbers_bounded mode g job (number_or 4 1 64 g.workers) (number_or 4194304 1 67108864 g.entries) (number_or 16 1 256 g.region) (number_or 0 0 4294967295 g.number)
-        (λ k e. number_within 4194304 1 67108864 k g.entries (omega arith) (omega arith) e) (λ k e. number_within 16 1 256 k g.region (omega arith) (omega arith) e) is
+        (λ k e. number_within 4 1 64 k g.workers (omega arith) (omega arith) e) (λ k e. number_within 4194304 1 67108864 k g.entries (omega arith) (omega arith) e) (λ k e. number_within 16 1 256 k g.region (omega arith) (omega arith) e) is
 
 given_bounded : (g : Given) (job : Job) (o : Option Mode) → option_and_then (in_mode g) o ≡ Some job → IsBounded job
 given_bounded g job None is = absurd (cc)

@@ -21,7 +21,7 @@ pub record DidExec (job : Job) (image : Contents) (call : Call) (end : End) : Ty
   pub text : (text : List ℕ) → text_in call.told job.file ≡ Some text → IsImage text image
   pub image_is : call.image ≡ Some image
   pub code : call.code ≡ []
-  pub legal : IsLegal (comes_to image job call)
+  pub legal : IsLegal job.workers (comes_to image job call)
   pub work : call.work ≡ work_of (comes_to image job call)
   pub ran : RanTo (comes_to image job call) end call.got_before call.got_after call.out_before call.out_after
 

@@ -1,5 +1,5 @@
 -- A world that runs in rounds, whose output is written after each.
-use Rattle.std.specs.Prelude.{◌≡◌, ℕ, ◌+◌, ◌*◌, ◌≤◌, ◌⊎◌, List, ◌++◌, length, take, All, Option, Some, None, IsSome}
+use Rattle.std.specs.Prelude.{◌≡◌, ℕ, ◌+◌, ◌*◌, ◌<◌, ◌≤◌, ◌⊎◌, List, ◌++◌, length, take, All, Option, Some, None, IsSome}
 use Rattle.al_base.specs.declared.over.Over.{Over}
 use Rattle.al_base.specs.declared.over.Over.TheVariants.{Spent}
 use Rattle.al_event.specs.declared.entry.Entry.{Entry}
@@ -22,11 +22,11 @@ history_along image region limit entries = record {
   loans = (opening image region limit).loans;
 }
 
--- The image has a run along the schedule, which is within the limit and was made by worker 0.
-pub record IsLegal (h : History) : Type 0 where
+-- The image has a run along the schedule, which is within the limit and was made by so many workers, numbered from 0 on.
+pub record IsLegal (workers : ℕ) (h : History) : Type 0 where
   pub runs : IsSome (run_of h)
   pub most : length h.entries ≤ h.limit
-  pub workers : All (λ (e : Entry). e.worker ≡ 0) h.entries
+  pub made_by : All (λ (e : Entry). e.worker < workers) h.entries
 
 -- how it ended: as its run is over; or it has as many entries as it may have, and its run is not over
 abbrev pub IsOver : History → Over → Type 0

@@ -37,17 +37,20 @@ use crate::outside::write_all;
 use crate::report::{End, Report, line_of};
 use crate::step::step;
 use al_host::{Host, Sink};
+use al_rounds::Gate;
 use al_words::{Mode, WordsStop, read_job};
 use std::alloc::Global;
 use std::sync::Wait;
 use std::thread::Threads;
 
 /// All of a call but its log, and the line of the text in which the run trapped, else 0.
-fn serve<H: Host, K: Sink>(
+fn serve<R: Threads + Wait + Sync, H: Host, K: Sink, G: Gate>(
+    rt: &R,
     alloc: Global,
     words: &[&str],
     host: &mut H,
     out: &mut K,
+    gate: &G,
 ) -> (Report, u32)
     ensures end { Ends (map (λ word. word.now) words.now) (call_by (H.content host.old) (H.content host.new) (H.faults host.old) (H.faults host.new) (K.got out.old) (K.got out.new) (K.faults out.old) (K.faults out.new) result.0) result.0.end }
     ensures line { result.1 ≡ line_in (map (λ word. word.now) words.now) (call_by (H.content host.old) (H.content host.new) (H.faults host.old) (H.faults host.new) (K.got out.old) (K.got out.new) (K.faults out.old) (K.faults out.new) result.0) }
@@ -60,7 +63,7 @@ fn serve<H: Host, K: Sink>(
     };
     match job.mode {
         Mode::Run => (run(alloc, job.file.as_str(), host, out), 0),
-        Mode::Exec => exec(alloc, &job, host, out),
+        Mode::Exec => exec(rt, alloc, &job, host, out, gate),
         Mode::Check => (check(alloc, job.file.as_str(), host), 0),
         Mode::Step => (step(alloc, &job, host, out), 0),
         // the other modes are yet to come
@@ -80,16 +83,17 @@ fn write_line<L: Sink>(end: &End, line: u32, log: &mut L)
 }
 
 /// The command `alef`. `run FILE` reads the text of that name, makes its code words, runs them and writes what they print;
-/// `exec IMAGE` reads the image of that name, runs it on this thread and writes what it puts out; `check FILE` reads the text of
+/// `exec IMAGE` reads the image of that name, runs it by workers on threads, each stretch by the gate, and writes what it puts out; `check FILE` reads the text of
 /// that name and says whether it is accepted, within the limits; `step FILE SCHEDULE` writes the world of the text after the first
 /// entries of the schedule. It says what it did, and writes a line to the log where it did not end well.
-pub fn alef<R: Threads + Wait + Sync, H: Host, K: Sink, L: Sink>(
-    _rt: &R,
+pub fn alef<R: Threads + Wait + Sync, H: Host, K: Sink, L: Sink, G: Gate>(
+    rt: &R,
     alloc: Global,
     words: &[&str],
     host: &mut H,
     out: &mut K,
     log: &mut L,
+    gate: &G,
 ) -> Report
     // Why the call ends as it does, and what it did.
     ensures end { Ends (map (λ word. word.now) words.now) (call_by (H.content host.old) (H.content host.new) (H.faults host.old) (H.faults host.new) (K.got out.old) (K.got out.new) (K.faults out.old) (K.faults out.new) result) result.end }
@@ -157,7 +161,7 @@ pub fn alef<R: Threads + Wait + Sync, H: Host, K: Sink, L: Sink>(
         → ¬ (Faulted (H.faults host.old) (H.faults host.new)) → ¬ (Faulted (K.faults out.old) (K.faults out.new))
         → (result.end ≡ End.Made) ⊎ (result.end ≡ End.NoMemory) }
 {
-    let (report, line) = serve(alloc, words, host, out);
+    let (report, line) = serve(rt, alloc, words, host, out, gate);
     write_line(&report.end, line, log);
     report
 }

@@ -15,10 +15,12 @@ use al_base::NoMemory;
 use al_core::{Limits, World};
 use al_host::{Host, Sink};
 use al_items::Items;
+use al_rounds::Gate;
 use al_words::Job;
 use rv_isa::image::Image;
 use std::alloc::Global;
-use std::sync::Arc;
+use std::sync::{Arc, Wait};
+use std::thread::Threads;
 
 /// The first world of an image under the limits of a job.
 fn first_world(alloc: Global, image: Image, job: &Job) -> Result<World, NoMemory>
@@ -61,13 +63,17 @@ fn report_of(alloc: Global, world: World, end: End) -> (Report, u32)
     (report, line)
 }
 
-/// Reads the image that a job names, runs it and writes what it puts out. It gives the line of the text in which it trapped, else 0.
-pub(crate) fn exec<H: Host, K: Sink>(
+/// Reads the image that a job names, runs it by as many workers as the job says and writes what it puts out. It gives the line of the text in which it trapped, else 0.
+pub(crate) fn exec<R: Threads + Wait + Sync, H: Host, K: Sink, G: Gate>(
+    rt: &R,
     alloc: Global,
     job: &Job,
     host: &mut H,
     out: &mut K,
+    gate: &G,
 ) -> (Report, u32)
+    requires some_workers { 1 ≤ job.now.workers }
+    requires few_workers { job.now.workers ≤ 64 }
     requires some_region { 1 ≤ job.now.region }
     requires region { job.now.region ≤ 256 }
     requires some_entries { 1 ≤ job.now.entries }
@@ -84,6 +90,6 @@ pub(crate) fn exec<H: Host, K: Sink>(
         Ok(world) => world,
         Err(_) => return (Report::nothing(alloc, End::NoMemory), 0),
     };
-    let (world, end) = run_world(alloc, world, job.entries, out);
+    let (world, end) = run_world(rt, alloc, world, job.workers, job.entries, out, gate);
     report_of(alloc, world, end)
 }

@@ -9,8 +9,11 @@ use crate::report::End;
 use al_base::Over;
 use al_core::World;
 use al_host::Sink;
-use al_rounds::round;
+use al_rounds::Gate;
+use al_workers::round;
 use std::alloc::Global;
+use std::sync::Wait;
+use std::thread::Threads;
 
 /// The most entries of a round.
 const ROUND_LENGTH: u64 = 65536;
@@ -23,27 +26,32 @@ fn next_quota(made: u64, limit: u64) -> u64
     limit.min(made + ROUND_LENGTH)
 }
 
-/// Runs the first world of an image until it is over or has as many entries as it may have. After each round its output is written
-/// and dropped.
-pub(crate) fn run_world<K: Sink>(
+/// Runs the first world of an image by workers until it is over or has as many entries as it may have. After each round its output
+/// is written and dropped.
+pub(crate) fn run_world<R: Threads + Wait + Sync, K: Sink, G: Gate>(
+    rt: &R,
     alloc: Global,
     world: World,
+    workers: u8,
     limit: u64,
     out: &mut K,
+    gate: &G,
 ) -> (World, End)
     requires first { world ≡ opening world.image world.region limit }
+    requires some_workers { 1 ≤ workers }
+    requires few_workers { workers ≤ 64 }
     requires some { 1 ≤ limit }
     requires most { limit ≤ 2 ^ 26 }
     ensures image { result.0.image ≡ world.image }
     ensures region { result.0.region ≡ world.region }
-    ensures legal { IsLegal (history_along world.image world.region limit result.0.entries) }
+    ensures legal { IsLegal workers (history_along world.image world.region limit result.0.entries) }
     ensures ran { RanTo (history_along world.image world.region limit result.0.entries) result.1 (K.got out.old) (K.got out.new) (K.faults out.old) (K.faults out.new) }
 {
     let mut world = world;
     let mut made = 0;
     loop {
         let quota = next_quota(made, limit);
-        let (later, lack) = round(alloc, world, quota);
+        let (later, lack) = round(rt, alloc, world, workers, quota, gate);
         world = later;
         made = world.entries().len() as u64;
         if lack.is_some() {

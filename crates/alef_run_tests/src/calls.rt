@@ -3,6 +3,7 @@ ghost use Rattle.std.specs.Prelude.{◌≤◌};
 use crate::images::*;
 use al_base::{Over, Trap};
 use al_host::{MemHost, MemSink};
+use al_rounds::OpenGate;
 use alef_run::{End, Refused, alef};
 use rv_image::ImageFault;
 use std::alloc::Global;
@@ -62,7 +63,9 @@ pub(super) fn compare<R: Threads + Wait + Sync + Abort>(
     let mut host = host_of(alloc, bytes, &[])?;
     let mut out = sink(alloc, 1 << 20, &[])?;
     let mut log = sink(alloc, 1 << 20, &[])?;
-    let report = alef(rt, alloc, want.words, &mut host, &mut out, &mut log);
+    let report = alef(
+        rt, alloc, want.words, &mut host, &mut out, &mut log, &OpenGate,
+    );
     assert_eq!(rt; report.end, want.end);
     assert_eq!(rt; report.status, want.status);
     assert_eq!(rt; report.schedule.len(), want.entries);
@@ -251,7 +254,7 @@ const RUNS: [(&[u32], Want<'static>); 8] = [
     (
         &WAITS,
         Want {
-            words: &["exec", "a"],
+            words: &["exec", "a", "--workers", "1"],
             end: End::Ran(Over::Done),
             status: 0,
             entries: 69,
@@ -291,7 +294,15 @@ fn hostile_images_trap(rt: HostRuntime) -> Result<(), Fail> {
         let mut host = host_of(alloc, &bytes, &[])?;
         let mut out = sink(alloc, 1 << 20, &[])?;
         let mut log = sink(alloc, 1 << 20, &[])?;
-        let report = alef(&rt, alloc, &["exec", "a"], &mut host, &mut out, &mut log);
+        let report = alef(
+            &rt,
+            alloc,
+            &["exec", "a"],
+            &mut host,
+            &mut out,
+            &mut log,
+            &OpenGate,
+        );
         assert_eq!(rt; report.status, 5);
         assert_eq!(rt; report.work, work);
         assert_eq!(rt;
@@ -358,7 +369,15 @@ fn places_that_fail(rt: HostRuntime) -> Result<(), Fail> {
         let mut host = host_of(alloc, &image, &[call])?;
         let mut out = sink(alloc, 3, &[])?;
         let mut log = sink(alloc, 1 << 20, &[])?;
-        let report = alef(&rt, alloc, &["exec", "a"], &mut host, &mut out, &mut log);
+        let report = alef(
+            &rt,
+            alloc,
+            &["exec", "a"],
+            &mut host,
+            &mut out,
+            &mut log,
+            &OpenGate,
+        );
         assert_eq!(rt; report.status, 3);
         assert_eq!(rt; out.got().len(), 0);
     }
@@ -366,7 +385,15 @@ fn places_that_fail(rt: HostRuntime) -> Result<(), Fail> {
         let mut host = host_of(alloc, &image, &[])?;
         let mut out = sink(alloc, 3, &[call as u64])?;
         let mut log = sink(alloc, 1 << 20, &[])?;
-        let report = alef(&rt, alloc, &["exec", "a"], &mut host, &mut out, &mut log);
+        let report = alef(
+            &rt,
+            alloc,
+            &["exec", "a"],
+            &mut host,
+            &mut out,
+            &mut log,
+            &OpenGate,
+        );
         assert_eq!(rt; report.end, End::WriteFault);
         assert_eq!(rt; report.schedule.len(), 7);
         assert_eq!(rt; out.got(), &b"abcabcabcabcabcabc"[..3 * (call - 1)]);
@@ -383,7 +410,15 @@ fn rounds_are_written_one_by_one(rt: HostRuntime) -> Result<(), Fail> {
     let mut host = host_of(alloc, &image, &[])?;
     let mut out = sink(alloc, 65536, &[2])?;
     let mut log = sink(alloc, 1 << 20, &[])?;
-    let report = alef(&rt, alloc, &["exec", "a"], &mut host, &mut out, &mut log);
+    let report = alef(
+        &rt,
+        alloc,
+        &["exec", "a"],
+        &mut host,
+        &mut out,
+        &mut log,
+        &OpenGate,
+    );
     assert_eq!(rt; report.status, 4);
     assert_eq!(rt; out.got().len(), 65536);
     assert_eq!(rt; report.schedule.len(), 70001);

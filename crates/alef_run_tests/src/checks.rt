@@ -3,6 +3,7 @@ use crate::calls::{USAGE, Want, compare, host_of, sink};
 use al_base::Place;
 use al_front::Refused as Reason;
 use al_lex::{LexFault, LexReason};
+use al_rounds::OpenGate;
 use al_rules::TypeFault;
 use al_tree::{ParseFault, ParseReason};
 use al_typed::Limit;
@@ -140,7 +141,15 @@ fn texts_that_are_not_read(rt: HostRuntime) -> Result<(), Fail> {
         let mut host = host_of(alloc, b"void main(){}", &[call])?;
         let mut out = sink(alloc, 3, &[])?;
         let mut log = sink(alloc, 1 << 20, &[])?;
-        let report = alef(&rt, alloc, &["check", "a"], &mut host, &mut out, &mut log);
+        let report = alef(
+            &rt,
+            alloc,
+            &["check", "a"],
+            &mut host,
+            &mut out,
+            &mut log,
+            &OpenGate,
+        );
         assert_eq!(rt; report.end, End::ReadFault);
         assert_eq!(rt; log.got(), b"alef: cannot read\n".as_slice());
     }

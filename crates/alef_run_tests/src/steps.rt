@@ -5,6 +5,7 @@ use crate::calls::sink;
 use al_base::Place;
 use al_front::Refused as Reason;
 use al_host::MemHost;
+use al_rounds::OpenGate;
 use al_rules::TypeFault;
 use alef_run::{End, Refused, ScheduleFault, alef};
 use std::alloc::Global;
@@ -66,7 +67,7 @@ fn compare<R: Threads + Wait + Sync + Abort>(
     let mut out = sink(alloc, 1 << 20, &[])?;
     let mut log = sink(alloc, 1 << 20, &[])?;
     let words = ["step", "a", "s", "--number", want.number];
-    let report = alef(rt, alloc, &words, &mut host, &mut out, &mut log);
+    let report = alef(rt, alloc, &words, &mut host, &mut out, &mut log, &OpenGate);
     assert_eq!(rt; report.end, want.end);
     assert_eq!(rt; report.status, want.status);
     assert_eq!(rt; report.schedule.len(), want.entries);
@@ -164,6 +165,7 @@ fn schedules_that_are_not_read(rt: HostRuntime) -> Result<(), Fail> {
             &mut host,
             &mut out,
             &mut log,
+            &OpenGate,
         );
         assert_eq!(rt; report.end, End::ReadFault);
         assert_eq!(rt; out.got().len(), 0);
@@ -179,6 +181,7 @@ fn schedules_that_are_not_read(rt: HostRuntime) -> Result<(), Fail> {
         &mut host,
         &mut out,
         &mut log,
+        &OpenGate,
     );
     assert_eq!(rt; report.status, 3);
     assert_eq!(rt; out.got().len(), 0);
@@ -194,7 +197,7 @@ fn worlds_that_are_not_written(rt: HostRuntime) -> Result<(), Fail> {
         let mut out = sink(alloc, 16, &[call as u64])?;
         let mut log = sink(alloc, 1 << 20, &[])?;
         let words = ["step", "a", "s", "--number", "3"];
-        let report = alef(&rt, alloc, &words, &mut host, &mut out, &mut log);
+        let report = alef(&rt, alloc, &words, &mut host, &mut out, &mut log, &OpenGate);
         assert_eq!(rt; report.end, End::WriteFault);
         assert_eq!(rt; report.schedule.len(), 3);
         assert_eq!(rt; out.got().len(), 16 * (call - 1));

@@ -9,6 +9,12 @@ pub returns-in-Check-clause-end : goal.returns-in-Check-clause-end
 returns-in-Check-clause-end g c =
     check_end _ c.check.result.end _ c.in-Ok.job c.as_str-in-Check.result.now c.in-Ok.ensures c.in-Check.is c.as_str-in-Check.ensures (c.check.ensures.end (g.K.Sink.got c.args.out.now) (g.K.Sink.faults c.args.out.now))
 
+pub exec-requires-clause-some_workers : goal.exec-requires-clause-some_workers
+exec-requires-clause-some_workers g c = (job_bounded _ c.in-Ok.job c.in-Ok.ensures).some_workers
+
+pub exec-requires-clause-few_workers : goal.exec-requires-clause-few_workers
+exec-requires-clause-few_workers g c = (job_bounded _ c.in-Ok.job c.in-Ok.ensures).workers
+
 pub exec-requires-clause-some_region : goal.exec-requires-clause-some_region
 exec-requires-clause-some_region g c = (job_bounded _ c.in-Ok.job c.in-Ok.ensures).some_region
 
