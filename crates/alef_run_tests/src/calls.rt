@@ -34,7 +34,7 @@ pub(super) fn sink(alloc: Global, most: u32, fail: &[u64]) -> Result<MemSink, Fa
 }
 
 /// The bytes of an image, from its numbers.
-fn bytes_of(alloc: Global, numbers: &[u32]) -> Result<Vec<u8>, Fail> {
+pub(super) fn bytes_of(alloc: Global, numbers: &[u32]) -> Result<Vec<u8>, Fail> {
     let mut bytes = Vec::new(alloc);
     for number in numbers {
         bytes.extend_from_slice(&number.to_le_bytes())?;

@@ -9,3 +9,5 @@ mod checks;
 mod images;
 #[cfg(test)]
 mod steps;
+#[cfg(test)]
+mod workers;
