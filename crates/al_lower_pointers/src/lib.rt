@@ -1,0 +1,2 @@
+//! Calls through pointers do in operations what they mean. All is in proofs/.
+#![tactic(auto)]
