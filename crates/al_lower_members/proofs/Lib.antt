@@ -1,0 +1,5 @@
+pub mod Even
+pub mod Within
+pub mod Paths
+pub mod Spelled
+pub mod Extracting
