@@ -1,0 +1,3 @@
+pub mod Longs
+pub mod Widening
+pub mod Conversions
