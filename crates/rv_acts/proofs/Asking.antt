@@ -23,7 +23,7 @@ use Rattle.rv_code.proofs.Operands.{IsKept, not_kept, Written}
 use Rattle.rv_code.proofs.Pairs.{leaves}
 use Rattle.rv_code.proofs.Slots.{put_other}
 use Rattle.rv_match.specs.Following.{Nears, Going}
-use Rattle.rv_match.specs.Match.{Private, InFrame, Match}
+use Rattle.rv_match.specs.Match.{IsText, Private, InFrame, Match}
 use Rattle.rv_match.specs.Places.{Places, Homes, Writes, Passes, under, full}
 use Rattle.rv_match.proofs.Keeping.{goes_to, at_home, wrote_by}
 use Rattle.rv_match.proofs.Steps.{Does, here}
@@ -46,7 +46,7 @@ module _ (ir : Ir) (image : Contents) (l : Places) (live : (f pc unit t : ℕ) �
     pub line_is : line_of image (place end) ≡ line
     pub kept : (n : ℕ) → IsKept n → w.registers n ≡ h.registers n
     pub stacks : (j : ℕ) → w.stack j ≡ h.stack j
-    pub text_is : w.text ≡ text1
+    pub text_is : IsText w.text text1
 
   abbrev answered : (w : Hart) → (registers : ℕ → ℕ) → Hart
   answered w registers = record w { pc = w.pc + 4; registers = put registers 3 4096; waits = Done; jumps = 0; work = 0 }

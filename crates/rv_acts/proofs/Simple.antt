@@ -159,14 +159,14 @@ module _ (ir : Ir) (image : Contents) (l : Places) (live : (f pc unit t : ℕ) �
   print_does has next passes =
       let w : Hart = record h { pc = h.pc + 4; registers = put h.registers 17 14; text = []; work = h.work + 1 + 1 } in
       silent_does ir image l live Midway left fr below c line u h p homes small m same (act.Print c.text) w (at0 + 1) [] (λ words. refl)
-      (call_asks image small h p at0 14 m.here refl has (act.Print c.text) (record w { waits = Done }) (ap (λ t. Asks (act.Print t) (record w { waits = Done }) p) m.text_is))
+      (call_asks image small h p at0 14 m.here refl has (act.Print c.text) (record w { waits = Done }) (ap (λ t. Asks (act.Print t) (record w { waits = Done }) p) m.text_is.0))
       (record {
         there = omega (arith, m.here);
         low = omega (arith, next, low);
         line_is = line_is (at0 + 1) (omega arith) (omega (arith, next));
         kept = λ n k. put_other h.registers 17 14 n (not_kept 17 n (omega arith, omega arith) k);
         stacks = λ j. refl;
-        text_is = refl;
+        text_is = (refl, omega arith);
       }) (omega (arith, next)) passes
 
   pub traps_does : (t : Trap) → Stands image.code at0 (trap_code t) → at0 + length (trap_code t) ≡ l.at fr.function (fr.pc + 1)

@@ -57,7 +57,10 @@ module _ (ir : Ir) (image : Contents) (l : Places) (live : (f pc unit t : ℕ) �
     pub composes_does : called number image calling p ≡ composed piece calling p → Does ir image l live Midway left h p (composes piece at_hand)
     composes_does does = on (nat_lt most_text (length c.text + length piece)) (nat_le (length h.text + length piece) 1024) refl refl where
       texts : length h.text ≡ length c.text
-      texts = ap (λ (t : List ℕ). length t) m.text_is
+      texts = ap (λ (t : List ℕ). length t) m.text_is.0
+
+      within : nat_lt most_text (length c.text + length piece) ≡ false → length (c.text ++ piece) ≤ most_text
+      within q = let few : length c.text + length piece ≤ most_text = grind (arith, nat_tests, q) in omega (arith, few, length-append c.text piece)
 
       on : (d e : Bool) → nat_lt most_text (length c.text + length piece) ≡ d → nat_le (length h.text + length piece) 1024 ≡ e
           → Does ir image l live Midway left h p (if d then traps trap.Print at_hand else moves (record at_hand { text = c.text ++ piece }))
@@ -76,7 +79,7 @@ module _ (ir : Ir) (image : Contents) (l : Places) (live : (f pc unit t : ℕ) �
             (does ∙ ap (λ (b : Bool). if b then Goes (moved (record calling { text = h.text ++ piece })) p else hart_traps trap.Print calling p) r));
         match = inl (goes_to ir image l live Midway m (fr.pc + 1) left (c.text ++ piece) (record h { pc = pc1 + 4 + 4; registers = put rs 17 number; text = h.text ++ piece; work = work1 + 1 + 1 })
             (omega (arith, there, behind)) (λ n k other. put_other rs 17 number n (not_kept 17 n (omega arith, omega arith) k) ∙ kept n k)
-            (kept 3 (inl (omega arith, omega arith)) ∙ m.turns) (λ j. refl) (ap (λ (t : List ℕ). t ++ piece) m.text_is) m.waits (omega (arith, m.counted, jumps_grow ir fr.function fr.pc (fr.pc + 1) (omega arith)))
+            (kept 3 (inl (omega arith, omega arith)) ∙ m.turns) (λ j. refl) (ap (λ (t : List ℕ). t ++ piece) m.text_is.0, within q) m.waits (omega (arith, m.counted, jumps_grow ir fr.function fr.pc (fr.pc + 1) (omega arith)))
             m.some m.few passes homes);
         same = same;
       }

@@ -29,7 +29,7 @@ use Rattle.rv_code.proofs.Operands.{home_kept}
 use Rattle.rv_code.proofs.Slots.{put_other, frame_loads}
 use Rattle.rv_form.specs.Flow.{stack_test, pass, become_code}
 use Rattle.rv_match.specs.Following.{Follows, GoesOn}
-use Rattle.rv_match.specs.Match.{Private, Below, InFrame, Plain}
+use Rattle.rv_match.specs.Match.{IsText, Private, Below, InFrame, Plain}
 use Rattle.rv_match.specs.Places.{Places, Homes, under, full, wide, jumps_before}
 use Rattle.rv_match.proofs.Keeping.{below_same, is_home, at_home}
 use Rattle.rv_match.proofs.Steps.{Does, here as at_hand}
@@ -50,7 +50,7 @@ module _ (ir : Ir) (image : Contents) (l : Places) (live : (f pc unit t : ℕ) �
   -- `f` is the function that goes
   module _ (left at from f g entry : ℕ) (slots : Slots) (below : List IrFrame) (text : List ℕ) (u : List ℕ) (h : Hart) (p : Privates) (fine : Fine h p)
       (here : h.pc ≡ place at) (pointer : h.registers 2 ≡ STACK_START + 4 * under l below) (turns : h.registers 3 ≡ left) (globals : h.registers 4 ≡ GLOBALS_START)
-      (text_is : h.text ≡ text) (waits : h.waits ≡ Done) (counted : h.jumps + wide * left ≤ wide * full) (some : 1 ≤ left) (few : left ≤ full)
+      (text_is : IsText h.text text) (waits : h.waits ≡ Done) (counted : h.jumps + wide * left ≤ wide * full) (some : 1 ≤ left) (few : left ≤ full)
       (same : Private ir u p) (b : Begins ir image l live g entry)
       (arguments : (i w : ℕ) → i < arguments_of (function_at ir g) → slots (from + i) ≡ Some w → value_at (l.home f (from + i)) (under l below) h.registers h.stack ≡ w)
       (inside : (i : ℕ) → i < arguments_of (function_at ir g) → from + i < l.slots f)

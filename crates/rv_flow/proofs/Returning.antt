@@ -28,7 +28,7 @@ use Rattle.rv_code.proofs.Operands.{home_kept}
 use Rattle.rv_code.proofs.Slots.{put_same, put_other, frame_stores}
 use Rattle.rv_form.specs.Flow.{show_word, show, leave_code}
 use Rattle.rv_match.specs.Following.{Nears}
-use Rattle.rv_match.specs.Match.{Private, Below, InFrame, Match}
+use Rattle.rv_match.specs.Match.{IsText, Private, Below, InFrame, Match}
 use Rattle.rv_match.specs.Places.{Places, Homes, under, full, wide, jumps_before}
 use Rattle.rv_match.proofs.Keeping.{below_same, at_home}
 use Rattle.rv_match.proofs.Steps.{Does, here}
@@ -146,7 +146,7 @@ module _ (ir : Ir) (image : Contents) (l : Places) (live : (f pc unit t : ℕ) �
   -- the frame below goes on at the place that the one above was given, or the task is over
   pub who_waits : (below : List IrFrame) (text : List ℕ) (last : Slots) (back left : ℕ) (h : Hart) (p : Privates)
       → Below ir image l live Midway h.stack back below → h.pc ≡ back → h.registers 2 ≡ STACK_START + 4 * under l below → under l below ≤ 2 ^ 20
-      → h.registers 3 ≡ left → h.registers 4 ≡ GLOBALS_START → h.text ≡ text → h.waits ≡ Done → 1 ≤ left → left ≤ full
+      → h.registers 3 ≡ left → h.registers 4 ≡ GLOBALS_START → IsText h.text text → h.waits ≡ Done → 1 ≤ left → left ≤ full
       → ((t w : ℕ) → last t ≡ Some w → (under l below + t < 2 ^ 20) × (h.stack (under l below + t) ≡ w))
       → h.jumps + wide * left ≤ wide * full + 4
       → Nears image resume (Private ir) (Match ir image l live Midway) left (left_behind text last below) h p

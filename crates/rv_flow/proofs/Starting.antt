@@ -66,7 +66,7 @@ module _ (ir : Ir) (image : Contents) (l : Places) (live : (f pc unit t : ℕ) �
             holds = λ t w need e. begun_holds o.registers o.stack (λ i less need1. o.arguments i less need1 ∙ started_word s.words i) t w need e;
             waiting = o.way;
             above = λ t w e. absurd (cc);
-            text_is = refl;
+            text_is = (refl, omega arith);
             waits = refl;
             counted = omega arith;
             some = omega arith;

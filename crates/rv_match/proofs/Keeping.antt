@@ -13,7 +13,7 @@ use Rattle.rv_code.specs.Homes.{value_at, IsHome, Apart}
 use Rattle.rv_code.specs.Jumps.{place}
 use Rattle.rv_code.proofs.Operands.{IsKept, home_kept, Written}
 use Rattle.rv_match.specs.Places.{Places, Homes, under, jumps_before, full, wide}
-use Rattle.rv_match.specs.Match.{Holds, Below, Reaches, InFrame}
+use Rattle.rv_match.specs.Match.{IsText, Holds, Below, Reaches, InFrame}
 
 pub slot_cases : (slots : Slots) (to v t w : ℕ) → put_slot to v slots t ≡ Some w → ((t ≡ to) × (v ≡ w)) ⊎ ((t ≢ to) × (slots t ≡ Some w))
 slot_cases slots to v t w e = on (nat_eq t to) refl e where
@@ -73,7 +73,7 @@ module _ (ir : Ir) (image : Contents) (l : Places) (live : (f pc unit t : ℕ) �
       pub way : h1.stack (under l below + l.slots fr.function) ≡ h.stack (under l below + l.slots fr.function)
       pub holds : Holds ir image l live Midway fr.function pc1 unit1 slots1 (under l below) h1.registers h1.stack
       pub above : (t w : ℕ) → last1 t ≡ Some w → (under l below + l.stack fr.function + t < 2 ^ 20) × (h1.stack (under l below + l.stack fr.function + t) ≡ w)
-      pub text_is : h1.text ≡ text1
+      pub text_is : IsText h1.text text1
       pub waits : h1.waits ≡ Done
       pub counted : h1.jumps + wide * left1 ≤ wide * full + jumps_before ir fr.function pc1 + 4
       pub some : 1 ≤ left1
@@ -108,7 +108,7 @@ module _ (ir : Ir) (image : Contents) (l : Places) (live : (f pc unit t : ℕ) �
         → end ≡ l.at fr.function (fr.pc + 1)
         → ((t : ℕ) → live fr.function (fr.pc + 1) 0 t → t ≢ to → Apart (l.home fr.function to) (l.home fr.function t) × live fr.function fr.pc unit t)
         → ((n : ℕ) → n ≢ 3 → registers0 n ≡ h.registers n) → registers0 3 ≡ left1
-        → g.text ≡ text1 → g.waits ≡ Done → g.jumps + wide * left1 ≤ wide * full + jumps_before ir fr.function (fr.pc + 1) + 4 → 1 ≤ left1 → left1 ≤ full
+        → IsText g.text text1 → g.waits ≡ Done → g.jumps + wide * left1 ≤ wide * full + jumps_before ir fr.function (fr.pc + 1) + 4 → 1 ≤ left1 → left1 ≤ full
         → (w : Written registers0 h.stack (under l below) end (l.home fr.function to) value)
         → InFrame ir image l live Midway left1 (record fr { pc = fr.pc + 1; slots = put_slot to v fr.slots }) below 0 text1 last
         (record g { pc = w.pc; registers = w.registers; stack = w.stack; work = work1 })
@@ -154,7 +154,7 @@ module _ (ir : Ir) (image : Contents) (l : Places) (live : (f pc unit t : ℕ) �
 
     -- The hart is at another operation, with no word moved.
     pub goes_to : (to left1 : ℕ) (text1 : List ℕ) (h1 : Hart) → h1.pc ≡ place (l.at fr.function to) → ((n : ℕ) → IsKept n → n ≢ 3 → h1.registers n ≡ h.registers n) → h1.registers 3 ≡ left1
-        → ((j : ℕ) → h1.stack j ≡ h.stack j) → h1.text ≡ text1 → h1.waits ≡ Done
+        → ((j : ℕ) → h1.stack j ≡ h.stack j) → IsText h1.text text1 → h1.waits ≡ Done
         → h1.jumps + wide * left1 ≤ wide * full + jumps_before ir fr.function to + 4 → 1 ≤ left1 → left1 ≤ full
         → ((t : ℕ) → live fr.function to 0 t → live fr.function fr.pc unit t) → Homes l
         → InFrame ir image l live Midway left1 (record fr { pc = to }) below 0 text1 last h1

@@ -5,6 +5,7 @@ use Rattle.rv_isa.specs.declared.image.Contents.{Contents}
 use Rattle.rv_exec.specs.Hart.{Hart}
 use Rattle.rv_exec.specs.Calls.{Privates}
 use Rattle.rv_exec.specs.declared.state.Waits.TheVariants.{Done}
+use Rattle.al_meaning.specs.Shown.{most_text}
 use Rattle.al_ir.specs.declared.ir.Ir.{Ir}
 use Rattle.al_ir.specs.Control.{Slots, Frame as IrFrame, Entering, Control}
 use Rattle.al_ir.specs.Meaning.{resume}
@@ -20,6 +21,10 @@ use Rattle.rv_match.specs.Places.{Places, under, jumps_before, full, wide}
 -- private globals correspond word by word
 abbrev pub Private : Ir → List ℕ → Privates → Type 0
 Private ir u p = (length u ≡ ir.privates) × ((j : ℕ) → j < ir.privates → p j ≡ slice_index u j)
+
+-- the text that is composed: a byte too much has trapped
+abbrev pub IsText : (shown text : List ℕ) → Type 0
+IsText shown text = (shown ≡ text) × (length text ≤ most_text)
 
 -- `live` as in Places; `Midway` says where a hart stands that has done so many units of an operation, at least one.
 module _ (ir : Ir) (image : Contents) (l : Places) (live : (f pc unit t : ℕ) → Type 0)
@@ -67,7 +72,7 @@ module _ (ir : Ir) (image : Contents) (l : Places) (live : (f pc unit t : ℕ) �
     pub waiting : Below h.stack (h.stack (under l below + l.slots f.function)) below
     -- what the function gave that returned last stands in the words above the frame
     pub above : (t w : ℕ) → last t ≡ Some w → (under l below + l.stack f.function + t < 2 ^ 20) × (h.stack (under l below + l.stack f.function + t) ≡ w)
-    pub text_is : h.text ≡ text
+    pub text_is : IsText h.text text
     pub waits : h.waits ≡ Done
     pub counted : h.jumps + wide * left ≤ wide * full + jumps_before ir f.function f.pc + 4
     pub some : 1 ≤ left
