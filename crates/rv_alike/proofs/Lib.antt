@@ -1,0 +1,9 @@
+pub mod Ranges
+pub mod Facts
+pub mod OnWords
+pub mod OnActs
+pub mod OnLongs
+pub mod OnFlow
+pub mod OnUnits
+pub mod Following
+pub mod Joining
