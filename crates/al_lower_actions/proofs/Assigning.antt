@@ -21,11 +21,11 @@ use Rattle.al_lower_steps.proofs.Slots.{holds_below}
 use Rattle.al_lower_steps.proofs.Steps.{moved, comes_out, has_front, has_back}
 use Rattle.al_lower_claims.proofs.Moving.{CanCopy, moves_do}
 use Rattle.al_lower_claims.proofs.Privates.{NoArrayGlobals}
-use Rattle.al_lower_claims.proofs.Variables.{IsLocal, home, Stays, room_free, more_room, vars_kept, vars_set, with_local, Dest, free, local, Put, put_outside_is}
+use Rattle.al_lower_claims.proofs.Variables.{IsLocal, home, Stays, room_free, more_room, vars_kept, vars_set, with_local, Dest, free, local, lone, Put, put_outside_is}
 use Rattle.al_lower_claims.proofs.Claims.{Setting, scene, site, spot, Run, Has, HasVars, HasRoom, UnitsOf, count_of, GoesOn, ValueDoes, CodedDoes, Leads, own, bound, variable, FoundAt, stored, slotted, kept, IsLocalPlace, PlacedDoes}
 use Rattle.al_lower_claims.proofs.Operands.{operand_does}
 use Rattle.al_lower_claims.proofs.Plain.{valued_does, one_of}
-use Rattle.al_lower_claims.proofs.Reading.{home_copies}
+use Rattle.al_lower_claims.proofs.Reading.{home_copies, one_copies}
 use Rattle.al_lower_claims.proofs.Saving.{save_does}
 
 true_is_not : (b : Bool) → b ≡ true → b ≡ false → ⊥
@@ -40,9 +40,11 @@ pub data Source (k : Setting) (n slot to : ℕ) : Type 0 where
 
 module _ (k : Setting) where
   pub can_copy : (n slot dest to : ℕ) → Source k n slot to → Dest (scene k) n dest to → HasRoom k to → CanCopy slot dest n
+  can_copy n slot dest to (behind le) (lone d lt) room = inr (omega (arith, le, lt))
   can_copy n slot dest to (behind le) (free d) room = inr (omega (arith, le, d))
   can_copy n slot dest to (behind le) (local m l x d len) room = let q = k.homes.fits m l x in let a = k.above in inr (omega (arith, q, a, room, le, d))
   can_copy n slot dest to (of_local m l x at len) d room = subst (λ s. CanCopy s dest n) (sym at) (home_copies k m l dest n to x len d room)
+  can_copy n slot dest to (of_turn i lt at one) (lone d less) room = one_copies k slot dest n d
   can_copy n slot dest to (of_turn i lt at one) (free d) room = inl (omega (arith, lt, at, one, d, room))
   can_copy n slot dest to (of_turn i lt at one) (local m l x d len) room = let q = k.homes.fits m l x in let a = k.above in inr (omega (arith, q, a, at, d))
 

@@ -23,9 +23,10 @@ use Rattle.al_lower_steps.specs.Slots.{Holds, Outside}
 use Rattle.al_lower_steps.proofs.Slots.{put_all_outside, put_all_holds}
 use Rattle.al_lower_steps.proofs.Steps.{comes_out}
 use Rattle.al_lower_steps.proofs.Storage.{load_units_does, store_units_does}
+use Rattle.al_lower_claims.proofs.Homes.{less_or_more}
 use Rattle.al_lower_claims.proofs.Moving.{CanCopy}
 use Rattle.al_lower_claims.proofs.Storing.{CanLoad, ready, loads_do, stores_do}
-use Rattle.al_lower_claims.proofs.Variables.{IsLocal, home, Dest, free, local}
+use Rattle.al_lower_claims.proofs.Variables.{IsLocal, home, Dest, free, local, lone}
 use Rattle.al_lower_claims.proofs.Claims.{Setting, scene, site, spot, Run, Has, HasRoom, UnitsOf, count_of, Leads, own, bound, variable}
 
 one_row : {A : Type 0} (o : Option A) (a b : A) → o ≡ Some a → o ≡ Some b → a ≡ b
@@ -59,8 +60,12 @@ module _ (k : Setting) where
       (λ ne. inr (k.homes.apart m n l r x y ne))
       (cases_eq m n)
 
+  one_apart : (slot dest n : ℕ) → n ≡ 1 → IsApart slot dest n ⊎ ((n ≡ 1) × (slot ≡ dest))
+  one_apart slot dest n e = ⊎_elim (λ same. inr (e, same)) (λ ne. ⊎_elim (λ lt. inl (inl lt)) (λ lt. inl (inr (omega (arith, lt, e)))) (less_or_more slot dest ne)) (cases_eq slot dest)
+
   -- the slot of an address lies apart from where the value comes to stand, or is that of the one word of it
   pub lead_apart : {lasting : Bool} (slot dest n to : ℕ) → Leads k lasting slot (to + n) → Dest (scene k) n dest to → HasRoom k to → IsApart slot dest n ⊎ ((n ≡ 1) × (slot ≡ dest))
+  lead_apart slot dest n to leads (lone d lt) room = one_apart slot dest n d
   lead_apart slot dest n to (own e) (free d) room = inl (inr (omega (arith, e, d)))
   lead_apart slot dest n to (own e) (local m l x d len) room = let q = k.homes.fits m l x in let a = k.above in inl (inr (omega (arith, e, d, len, q, a, room)))
   lead_apart slot dest n to (bound f lt) (free d) room = inl (inl (omega (arith, lt, d, room)))
@@ -80,8 +85,12 @@ module _ (k : Setting) where
   is_apart slot dest n lt (inl a) = a
   is_apart slot dest n lt (inr e) = let a = e.0 in absurd (omega (arith, a, lt))
 
+  pub one_copies : (from to n : ℕ) → n ≡ 1 → CanCopy from to n
+  one_copies from to n e = ⊎_elim (λ same. inr (omega (arith, same))) (λ ne. ⊎_elim (λ lt. inl (omega (arith, lt, e))) (λ lt. inr (omega (arith, lt))) (less_or_more from to ne)) (cases_eq from to)
+
   -- the words of a local can be copied to where they are wanted
   pub home_copies : (m : ℕ) (l : LocalRow) (dest n to : ℕ) → IsLocal (scene k) m l → length (units_in k.ways.program l.ty) ≡ n → Dest (scene k) n dest to → HasRoom k to → CanCopy (home (scene k) m) dest n
+  home_copies m l dest n to x len (lone d lt) room = one_copies (home (scene k) m) dest n d
   home_copies m l dest n to x len (free d) room = let q = k.homes.fits m l x in let a = k.above in inl (omega (arith, q, len, d, a, room))
   home_copies m l dest n to x len (local j r y d len2) room = ⊎_elim
       (λ same. let e : home (scene k) m ≡ dest = ap (home (scene k)) same.0 ∙ sym d in inr (omega (arith, e)))

@@ -53,6 +53,7 @@ pub record Vars (c : Scene) (env : Env) (slots : Slots) : Type 0 where
   pub around_fits : AreOf (map (λ _. unit_at 0 4) (round_of (function_at c.program c.function))) env.around
   pub rounds : (i : ℕ) → i < c.iterators → slots (c.turns + i) ≡ Some (slice_index env.turns i)
   pub rounds_fit : (i : ℕ) → i < c.iterators → slice_index env.turns i < 2 ^ 32
+  pub rounds_there : c.iterators ≤ length env.turns
 
 -- slots from this one on are free
 abbrev pub Room : Scene → ℕ → Type 0
@@ -81,6 +82,7 @@ vars_kept c env b now old room h v =
       around_fits = v.around_fits;
       rounds = λ i lt. h (c.turns + i) (omega (arith, room, lt)) ∙ v.rounds i lt;
       rounds_fit = v.rounds_fit;
+      rounds_there = v.rounds_there;
     }
 
 -- ---- slots that no private local has
@@ -147,6 +149,7 @@ vars_set c n l env v now old x fits o holds vars =
       around_fits = vars.around_fits;
       rounds = λ i lt. o (c.turns + i) (inr (omega (arith, le, len, above))) ∙ vars.rounds i lt;
       rounds_fit = vars.rounds_fit;
+      rounds_there = vars.rounds_there;
     }
   where
     here : (m : ℕ) (k : LocalRow) → IsLocal c m k → m ≡ n → HoldsLocal c m k (with_local n v env) now
@@ -174,10 +177,11 @@ vars_set c n l env v now old x fits o holds vars =
 
 -- ---- where a value is wanted
 
--- in the first free slots, or in the home of a local
+-- in the first free slots, or in the home of a local; one word in any slot before these
 pub data Dest (c : Scene) (n dest to : ℕ) : Type 0 where
   free : dest ≡ to → Dest c n dest to
   local : (m : ℕ) (l : LocalRow) → IsLocal c m l → dest ≡ home c m → length (units_in c.program l.ty) ≡ n → Dest c n dest to
+  lone : n ≡ 1 → dest < to → Dest c n dest to
 
 -- below `to` only the slots where it comes to stand are others
 abbrev pub Put : (n dest to : ℕ) → Slots → Slots → Type 0

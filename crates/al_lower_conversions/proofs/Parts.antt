@@ -30,7 +30,7 @@ use Rattle.al_lower_steps.proofs.Steps.{moved, has_front, has_back}
 use Rattle.al_lower_steps.proofs.Plain.{convert_does}
 use Rattle.al_lower_claims.proofs.Moving.{copies_do}
 use Rattle.al_lower_claims.proofs.Privates.{take_fits, drop_fits, join_fits}
-use Rattle.al_lower_claims.proofs.Variables.{stays_both, more_room, Dest, free, local, put_outside_is}
+use Rattle.al_lower_claims.proofs.Variables.{stays_both, more_room, Dest, free, local, lone, put_outside_is}
 use Rattle.al_lower_claims.proofs.Claims.{Setting, scene, site, spot, Run, Has, HasRoom, UnitsOf, count_of, CodedDoes}
 use Rattle.al_lower_claims.proofs.Operands.{both_true, free_does}
 use Rattle.al_lower_claims.proofs.Plain.{valued_does}
@@ -211,6 +211,7 @@ module _ (k : Setting) where
 
   -- where a value is wanted lies before what is found behind as many free slots
   dest_before : (n dest to : ℕ) → Dest (scene k) n dest to → HasRoom k to → dest + n ≤ to + n
+  dest_before n dest to (lone d lt) room = omega (arith, lt)
   dest_before n dest to (free d) room = omega (arith, d)
   dest_before n dest to (local m l x d len) room = let q = k.homes.fits m l x in let a = k.above in omega (arith, q, d, len, a, room)
 

@@ -20,7 +20,7 @@ use Rattle.al_lower_steps.proofs.Slots.{holds_join, holds_at}
 use Rattle.al_lower_steps.proofs.Steps.{moved, comes_out, has_front, has_back}
 use Rattle.al_lower_claims.proofs.Moving.{CanCopy, moves_do}
 use Rattle.al_lower_claims.proofs.Privates.{join_fits}
-use Rattle.al_lower_claims.proofs.Variables.{Stays, stays_refl, stays_both, holds_stays, more_room, Dest, free, local, put_outside_is}
+use Rattle.al_lower_claims.proofs.Variables.{Stays, stays_refl, stays_both, holds_stays, more_room, Dest, free, local, lone, put_outside_is}
 use Rattle.al_lower_claims.proofs.Claims.{Setting, scene, site, spot, Run, Has, HasVars, HasRoom, UnitsOf, count_of, Gave, ValueDoes, CodedDoes}
 use Rattle.al_lower_claims.proofs.Operands.{both_true, free_does}
 use Rattle.al_lower_claims.proofs.Plain.{valued_does}
@@ -92,6 +92,7 @@ module _ (k : Setting) where
   -- ---- words from the first free slots to where they are wanted
 
   pub can_move : (n dest to : ℕ) → Dest (scene k) n dest to → HasRoom k to → CanCopy to dest n
+  can_move n dest to (lone d lt) room = inr (omega (arith, lt))
   can_move n dest to (free d) room = inr (omega (arith, d))
   can_move n dest to (local m l x d len) room = let q = k.homes.fits m l x in let a = k.above in inr (omega (arith, q, d, a, room))
 
