@@ -28,7 +28,7 @@ use Rattle.al_lower_steps.proofs.Slots.{put_outside, holds_outside, outside_none
 use Rattle.al_lower_steps.proofs.Steps.{Runs, moved as moved_on, has_front, has_back}
 use Rattle.al_lower_steps.proofs.Plain.{extract_does}
 use Rattle.al_lower_claims.proofs.Moving.{more_outside, first_holds}
-use Rattle.al_lower_claims.proofs.Variables.{Stays, Dest, free, local, put_outside_is, stays_both, stays_below, vars_kept, more_room}
+use Rattle.al_lower_claims.proofs.Variables.{Stays, Dest, free, local, lone, put_outside_is, stays_both, stays_below, vars_kept, more_room}
 use Rattle.al_lower_claims.proofs.Claims.{Setting, scene, site, spot, Run, Has, HasVars, HasRoom, UnitsOf, count_of, Gave, CodedDoes}
 use Rattle.al_lower_claims.proofs.Operands.{free_does}
 use Rattle.al_lower_claims.proofs.Plain.{valued_does}
@@ -206,6 +206,7 @@ module _ (k : Setting) (laid : IsLaidOut k.ways.program.aggregates) {m : Task (O
     where
       dest_low : (dest to : ℕ) → Dest (scene k) (count_of k part) dest to → HasRoom k to → dest + count_of k part ≤ to + count_of k part
       dest_low dest to (free d) room = omega (arith, d)
+      dest_low dest to (lone one lt) room = omega (arith, lt)
       dest_low dest to (local i l x d len) room = let q = k.homes.fits i l x in let a = k.above in omega (arith, d, q, a, room)
 
   -- ---- an object that is a member of a value
