@@ -10,22 +10,22 @@ returns-in-Check-clause-end g c =
     check_end _ c.check.result.end _ c.in-Ok.job c.as_str-in-Check.result.now c.in-Ok.ensures c.in-Check.is c.as_str-in-Check.ensures (c.check.ensures.end (g.K.Sink.got c.args.out.now) (g.K.Sink.faults c.args.out.now))
 
 pub exec-requires-clause-some_workers : goal.exec-requires-clause-some_workers
-exec-requires-clause-some_workers g c = (job_bounded _ c.in-Ok.job c.in-Ok.ensures).some_workers
+exec-requires-clause-some_workers g c κs within = (job_bounded _ c.in-Ok.job c.in-Ok.ensures).some_workers
 
 pub exec-requires-clause-few_workers : goal.exec-requires-clause-few_workers
-exec-requires-clause-few_workers g c = (job_bounded _ c.in-Ok.job c.in-Ok.ensures).workers
+exec-requires-clause-few_workers g c κs within = (job_bounded _ c.in-Ok.job c.in-Ok.ensures).workers
 
 pub exec-requires-clause-some_region : goal.exec-requires-clause-some_region
-exec-requires-clause-some_region g c = (job_bounded _ c.in-Ok.job c.in-Ok.ensures).some_region
+exec-requires-clause-some_region g c κs within = (job_bounded _ c.in-Ok.job c.in-Ok.ensures).some_region
 
 pub exec-requires-clause-region : goal.exec-requires-clause-region
-exec-requires-clause-region g c = (job_bounded _ c.in-Ok.job c.in-Ok.ensures).region
+exec-requires-clause-region g c κs within = (job_bounded _ c.in-Ok.job c.in-Ok.ensures).region
 
 pub exec-requires-clause-some_entries : goal.exec-requires-clause-some_entries
-exec-requires-clause-some_entries g c = (job_bounded _ c.in-Ok.job c.in-Ok.ensures).some_entries
+exec-requires-clause-some_entries g c κs within = (job_bounded _ c.in-Ok.job c.in-Ok.ensures).some_entries
 
 pub exec-requires-clause-entries : goal.exec-requires-clause-entries
-exec-requires-clause-entries g c = (job_bounded _ c.in-Ok.job c.in-Ok.ensures).entries
+exec-requires-clause-entries g c κs within = (job_bounded _ c.in-Ok.job c.in-Ok.ensures).entries
 
 pub returns-in-Step-clause-end : goal.returns-in-Step-clause-end
 returns-in-Step-clause-end g c = step_end _ c.step.result.end _ c.in-Ok.job c.in-Ok.ensures c.in-Step.is c.step.ensures.end
