@@ -25,6 +25,7 @@ use Rattle.rv_alike.proofs.OnWords.{constant, copy, result, word, word_by, compl
 use Rattle.rv_alike.proofs.OnLongs.{long, zeroes, convert}
 use Rattle.rv_alike.proofs.OnFlow.{skip, skip_if_zero, skip_if_set, skip_unless, go_to, back, turn, invoke, become, leave, terminate}
 use Rattle.rv_alike.proofs.OnActs.{load, store, alloc, free, new_chan, free_chan, can_recv, can_send, put_byte, put_character, put_decimal, put_long_decimal, put_hex, put_long_hex, print, trap}
+use Rattle.rv_alike.proofs.OnTalks.{talk_goes, proc, task, par}
 use Rattle.rv_alike.proofs.OnUnits.{load_units, store_units, clear_units, put_text}
 
 module _ (ir : Ir) (image : Contents) (l : Layout) (all : IsLaidOut ir image l) (rest : FollowsLeft ir image l all.homes) where
@@ -99,10 +100,10 @@ module _ (ir : Ir) (image : Contents) (l : Layout) (all : IsLaidOut ir image l) 
     by_form (op.StoreUnits a offset layout from) e m = store_units ir image l all left fr below c u h p o at m same fine a offset layout from e
     by_form (op.ClearUnits a offset layout) e m = clear_units ir image l all left fr below c u h p o at m same fine a offset layout e
     by_form (op.InvokePointer class pointer arguments) e m = left_over (op.InvokePointer class pointer arguments) e tt (as_zero (op.InvokePointer class pointer arguments) e (λ n slots sp g q. q) m)
-    by_form (op.Talk branches records to got) e m = left_over (op.Talk branches records to got) e tt (as_zero (op.Talk branches records to got) e (λ n slots sp g q. q) m)
-    by_form (op.Proc function arguments words) e m = left_over (op.Proc function arguments words) e tt (as_zero (op.Proc function arguments words) e (λ n slots sp g q. q) m)
-    by_form (op.Task function arguments words) e m = left_over (op.Task function arguments words) e tt (as_zero (op.Task function arguments words) e (λ n slots sp g q. q) m)
-    by_form (op.Par functions arguments words records) e m = left_over (op.Par functions arguments words records) e tt (as_zero (op.Par functions arguments words records) e (λ n slots sp g q. q) m)
+    by_form (op.Talk branches records to got) e m = talk_goes ir image l all left fr below c u h p o at (as_zero (op.Talk branches records to got) e (λ n slots sp g q. q) m) same fine branches records to got e
+    by_form (op.Proc function arguments words) e m = proc ir image l all left fr below c u h p o at (as_zero (op.Proc function arguments words) e (λ n slots sp g q. q) m) same fine function arguments words e
+    by_form (op.Task function arguments words) e m = task ir image l all left fr below c u h p o at (as_zero (op.Task function arguments words) e (λ n slots sp g q. q) m) same fine function arguments words e
+    by_form (op.Par functions arguments words records) e m = par ir image l all left fr below c u h p o at (as_zero (op.Par functions arguments words records) e (λ n slots sp g q. q) m) same fine functions arguments words records e
 
   -- the operation at hand, if there is one
   at_hand : (left : ℕ) (fr : IrFrame) (below : List IrFrame) (c : Control) (u : List ℕ) (h : Hart) (p : Privates) (x : Option Operation) → operation_at ir fr.function fr.pc ≡ x → Private ir u p → Fine h p

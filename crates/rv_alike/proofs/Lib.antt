@@ -5,5 +5,6 @@ pub mod OnActs
 pub mod OnLongs
 pub mod OnFlow
 pub mod OnUnits
+pub mod OnTalks
 pub mod Following
 pub mod Joining

@@ -1,5 +1,5 @@
 -- What an image has to have for its harts to follow the operations of a program.
-use Rattle.std.specs.Prelude.{◌≡◌, ℕ, ◌*◌, ◌^◌, ◌<◌, ◌≤◌, Bool, List, length, slice_get, Some}
+use Rattle.std.specs.Prelude.{◌≡◌, ℕ, ◌*◌, ◌^◌, ◌<◌, ◌≤◌, Bool, true, List, length, slice_get, Some}
 use Rattle.al_base.specs.declared.arith.Op.{Op as Arith}
 use Rattle.al_ir.specs.Bounds.{IsBounded}
 use Rattle.al_ir.specs.Control.{Frame as IrFrame, Control, function_at, stack_of, arguments_of, operation_at}
@@ -10,10 +10,10 @@ use Rattle.al_ir.specs.declared.ir.Ir.{Ir}
 use Rattle.al_ir.specs.declared.ir.Operation.{Operation}
 use Rattle.al_ir.specs.declared.ir.Run.{Run}
 use Rattle.al_ir.specs.declared.op.Op.{Op}
-use Rattle.al_ir.specs.declared.op.Op.TheVariants.{Long, InvokePointer, Talk, Proc, Task, Par}
+use Rattle.al_ir.specs.declared.op.Op.TheVariants.{Long, InvokePointer}
 use Rattle.rv_isa.specs.declared.image.Contents.{Contents}
 use Rattle.rv_exec.specs.Hart.{Hart}
-use Rattle.rv_exec.specs.Calls.{Privates}
+use Rattle.rv_exec.specs.Calls.{Privates, has_function}
 use Rattle.rv_exec.specs.Machine.{line_of, entry_of}
 use Rattle.rv_long.specs.declared.op.LongOp.{LongOp}
 use Rattle.rv_code.specs.Jumps.{place}
@@ -38,6 +38,7 @@ pub record IsLaidOut (ir : Ir) (image : Contents) (l : Layout) : Type 0 where
   pub laid : Laid ir image (places l) (template l)
   pub begins : (g : ℕ) → g < length ir.functions → Begins ir image (places l) (live_in ir l homes) g (l.entry g)
   pub rows : (g : ℕ) → g < length ir.functions → entry_of (slice_get image.functions g) ≡ l.entry g
+  pub words : (g : ℕ) → g < length ir.functions → has_function image g (arguments_of (function_at ir g)) ≡ true
   -- the routines of the divisions that the program has
   pub routines : (f pc : ℕ) (o : Operation) (op : Arith) (signed : Bool) (to a b : ℕ) (d : LongOp) → operation_at ir f pc ≡ Some o → o.op ≡ Long op signed to a b
       → division_of op signed ≡ Some d → Stands image.code (l.routine d) (routine_code d)
@@ -55,10 +56,6 @@ pub record IsLaidOut (ir : Ir) (image : Contents) (l : Layout) : Type 0 where
 
 abbrev pub IsLeft : Op → Type 0
 IsLeft (InvokePointer class pointer arguments) = Unit {0}
-IsLeft (Talk branches records to got) = Unit {0}
-IsLeft (Proc function arguments words) = Unit {0}
-IsLeft (Task function arguments words) = Unit {0}
-IsLeft (Par functions arguments words records) = Unit {0}
 IsLeft _ = ⊥
 
 -- harts follow such operations
