@@ -11,4 +11,6 @@ pub use al_run_tree::Steps;
 pub use region::{BASE, MOST_BLOCKS, NotThere, Region};
 
 #[cfg(test)]
+mod costs;
+#[cfg(test)]
 mod tests;
