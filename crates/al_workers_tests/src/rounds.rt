@@ -60,7 +60,7 @@ fn made_again(
 /// Whatever the threads do, what a racy program wrote is what its entries lead to.
 #[test]
 fn races_are_as_their_entries_say(rt: HostRuntime) -> Result<(), NoMemory> {
-    for (workers, rounds) in [(2, 1000), (3, 1000), (4, 4000), (64, 20)] {
+    for (workers, rounds) in [(2, 200), (3, 200), (4, 600), (64, 10)] {
         for _ in 0..rounds {
             let world = run_by(&rt, rt.alloc(), &RACE, workers, MOST, &OpenGate)?;
             assert_eq!(&rt; world.over(), Some(Over::Done));
