@@ -1,0 +1,11 @@
+pub mod Types
+pub mod Premises
+pub mod Signatures
+pub mod Sound
+pub mod Truths
+pub mod Rows
+pub mod Forms
+pub mod Each
+pub mod Receivers
+pub mod Claims
+pub mod Induction
