@@ -1,0 +1,10 @@
+pub mod ByForm
+pub mod Fields
+pub mod Folding
+pub mod Forms
+pub mod Found
+pub mod InRows
+pub mod Kept
+pub mod Plain
+pub mod Rest
+pub mod Unchanged

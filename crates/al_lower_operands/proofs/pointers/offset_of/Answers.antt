@@ -1,0 +1,10 @@
+use Rattle.std.proofs.Common.{◌≡◌, ℕ, List, IfOk, ap, ap₂, ◌∙◌, subst}
+use Rattle.al_typed.specs.declared.ty.Ty.{Ty}
+use Rattle.al_typed.specs.Typed.{place_type}
+use Rattle.al_meaning.specs.Places.{path_offset}
+use Rattle.al_lower_operands.proofs.pointers.offset_of.Goals as goal
+
+pub returns : goal.returns
+returns c =
+    subst (λ (n : ℕ). IfOk c.path_bytes.result (λ k. k ≡ n))
+    (ap₂ (λ (t : Ty) (way : List ℕ). path_offset c.args.s.program.now t way) (c.ty.ensures ∙ ap place_type c.get.ensures) c.as_slice.ensures.value) c.path_bytes.ensures
