@@ -1,0 +1,4 @@
+pub mod Bodies
+pub mod Talks
+pub mod Dispatch
+pub mod Alts

@@ -1,0 +1,4 @@
+pub mod Runs
+pub mod Layouts
+pub mod Rows
+pub mod Programs

@@ -1,0 +1,4 @@
+pub mod Labels
+pub mod Functions
+pub mod Terms
+pub mod Statements
