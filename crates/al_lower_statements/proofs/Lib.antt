@@ -1,4 +1,5 @@
 pub mod Labels
 pub mod Functions
+pub mod Types
 pub mod Terms
 pub mod Statements

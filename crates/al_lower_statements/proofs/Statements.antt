@@ -18,8 +18,8 @@ use Rattle.al_typed.specs.declared.statement.TStmt.{TStmt, Empty, Block', Declar
 use Rattle.al_typed.specs.declared.statement.TStmt as stmt
 use Rattle.al_typed.specs.StatementForms as part
 use Rattle.al_typed.specs.Types.{is_void, is_array, is_scalar}
-use Rattle.al_typed.specs.Typed.{type_of, place_type, row_types}
-use Rattle.al_typed.specs.WellTyped.{Nest, inside, in_loop, in_cases, switch_labels, alt_labels, IsValue, IsPlace, IsStatement, IsOther, AreStatements, IsCondition, IsOptionalCondition, IsOptionalValue, IsCall, AreBounds, IsInitializer, Allocates, GivesBack, IsBranch, IsChannelOf, Communicates, alt_cases}
+use Rattle.al_typed.specs.Typed.{target_type, type_of, place_type, row_types}
+use Rattle.al_typed.specs.WellTyped.{Nest, inside, in_loop, in_cases, switch_labels, alt_labels, IsValue, IsPlace, IsStatement, IsOther, AreStatements, IsCondition, IsOptionalCondition, IsOptionalValue, IsCall, AreBounds, IsInitializer, Allocates, GivesBack, IsBranch, IsChannelOf, Communicates, alt_cases, is_sound}
 use Rattle.al_meaning.specs.Here.{units_in}
 use Rattle.al_meaning.specs.Meant.{returned, become_in, optionally, condition, start_of}
 use Rattle.al_lower_code.specs.Homes.{at_line}
@@ -33,6 +33,8 @@ use Rattle.al_lower_bodies.proofs.Tests.{condition_does, optional_does}
 use Rattle.al_lower_bodies.proofs.Storing.{block, channel, is_new}
 use Rattle.al_lower_bodies.proofs.Effects.{optional_effect, InitialDoes, declare_does, NewDoes, alloc_does, OldDoes, unalloc_does, check_does}
 use Rattle.al_lower_bodies.proofs.Fors.{for_piece}
+use Rattle.al_lower_received.proofs.Receiving.{received_went}
+use Rattle.al_lower_statements.proofs.Types.{IsCarried, carried, converts_to_no_array}
 use Rattle.al_lower_statements.proofs.Terms.{Terms, OptionalFits, CallFits, TalkFits, Fits, OtherFits, AllFit, Premises}
 use Rattle.al_lower_returns.proofs.Returns.{return_none_does, return_value_does, become_in_does}
 use Rattle.al_lower_switch.proofs.Cases.{RowsIn, all_in}
@@ -137,16 +139,21 @@ module _ (T : Terms) (b : Body) (X : Premises T b) where
     does = value_in line 0 chan h r;
   }
 
+  carries : (chan : TExpr) (t : Ty) → IsValue (scope_of b 0) chan → IsChannelOf (type_of chan) t → IsCarried b.program.aggregates t
+  carries chan t h c = carried b.program.aggregates t c.0 (subst (λ u. is_sound b.program.aggregates u ≡ true) c.1 (X.terms.sound chan h))
+
   talk_in : (line : ℕ) (c : TCommunication) → Communicates (scope_of b 0) c → TalkFits T (scope_of b 0) c → TalkIn b line c
   talk_in line (talk.Receive t chan) h r = channel_in line chan t h.0 h.1 r
   talk_in line (talk.ReceiveInto t target chan) h r = channel_in line chan t h.1.0 h.1.1.0 r.1
   talk_in line (talk.Send chan value) h r =
-      let v = X.terms.carried chan (type_of value) h.0 h.1.1 in
-      (channel_in line chan (type_of value) h.0 h.1.1 r.0, record { not_void = v.0; not_array = v.1; does = value_in line 0 value h.1.0 r.1 })
+      let v = carries chan (type_of value) h.0 h.1.1 in
+      (channel_in line chan (type_of value) h.0 h.1.1 r.0, record { not_void = v.not_void; not_array = v.not_array; does = value_in line 0 value h.1.0 r.1 })
 
   went_in : (line : ℕ) (c : TCommunication) → Communicates (scope_of b 0) c → TalkFits T (scope_of b 0) c → WentIn b line c
   went_in line (talk.Receive t chan) h r = nothing_went b line t chan
-  went_in line (talk.ReceiveInto t target chan) h r = X.terms.received line t target chan h.0 r.0 h.1.0 h.1.1.0 h.1.1.1
+  went_in line (talk.ReceiveInto t target chan) h r =
+      let v = carries chan t h.1.0 h.1.1.0 in
+      received_went b line t target chan h.1.1.1 v.sound (X.terms.sound_target target h.0) v.not_array (converts_to_no_array t (target_type target) h.1.1.1) (X.terms.target line target h.0 r.0)
   went_in line (talk.Send chan value) h r = sending_went b line chan value
 
   cases_talk : (line : ℕ) (n : Nest) {m : _} (row : Row_of-TStmt m) → AreStatements (scope_of b 0) (in_cases alt_labels n) row → AllFit T (scope_of b 0) row → AllByRecursion (TalkIn b line) (cases_in row)

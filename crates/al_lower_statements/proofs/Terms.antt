@@ -17,10 +17,10 @@ use Rattle.al_typed.specs.declared.statement.TStmt as stmt
 use Rattle.al_typed.specs.StatementForms as part
 use Rattle.al_typed.specs.Types.{is_void, is_array}
 use Rattle.al_typed.specs.Typed.{type_of, target_type, parameter_types}
-use Rattle.al_typed.specs.WellTyped.{Scope, IsCallable, IsValue, AreValues, IsPlace, IsTarget, IsGiven, IsChannelOf, converts}
+use Rattle.al_typed.specs.WellTyped.{Scope, IsCallable, IsValue, AreValues, IsPlace, IsTarget, IsGiven, is_sound}
 use Rattle.al_meaning.specs.Places.{function_at}
 use Rattle.al_lower_bodies.proofs.Bodies.{Body, scope_of, ValueIn, PlaceIn, ValuesIn, ObjectIn}
-use Rattle.al_lower_alts.proofs.Dispatch.{WentIn}
+use Rattle.al_lower_received.proofs.Receiving.{TargetIn}
 
 -- ---- what else is asked of terms
 
@@ -80,14 +80,15 @@ module _ (T : Terms) where
 
 -- ---- what is claimed of terms
 
--- The terms of a function do what they mean, if they are well typed and fit; what channels carry has values.
+-- The terms of a function do what they mean, if they are well typed and fit, and have sound types.
 pub record TermsDo (T : Terms) (b : Body) : Type 0 where
   pub value : (line iterators : ℕ) (e : TExpr) → IsValue (scope_of b iterators) e → T.Value (scope_of b iterators) e → ValueIn b line iterators e
   pub place : (line iterators : ℕ) (place : TPlace) → IsPlace (scope_of b iterators) place → T.Place (scope_of b iterators) place → PlaceIn b line iterators place
   pub values : (line iterators : ℕ) {m : _} (es : Row_of-TExpr m) → AreValues (scope_of b iterators) es → T.Values (scope_of b iterators) es → ValuesIn b line iterators es
   pub object : (line iterators : ℕ) (o : Held-TExpr-Call-2) (given : List Ty) → IsGiven (scope_of b iterators) o given → T.Object (scope_of b iterators) o → ObjectIn b line iterators o given
-  pub received : (line : ℕ) (t : Ty) (target : TTarget) (chan : TExpr) → IsTarget (scope_of b 0) target → T.Target (scope_of b 0) target → IsValue (scope_of b 0) chan → IsChannelOf (type_of chan) t → converts t (target_type target) ≡ true → WentIn b line (talk.ReceiveInto t target chan)
-  pub carried : (chan : TExpr) (t : Ty) → IsValue (scope_of b 0) chan → IsChannelOf (type_of chan) t → (is_void t ≡ false) × (is_array t ≡ false)
+  pub target : (line : ℕ) (target : TTarget) → IsTarget (scope_of b 0) target → T.Target (scope_of b 0) target → TargetIn b line target
+  pub sound : (e : TExpr) → IsValue (scope_of b 0) e → is_sound b.program.aggregates (type_of e) ≡ true
+  pub sound_target : (target : TTarget) → IsTarget (scope_of b 0) target → is_sound b.program.aggregates (target_type target) ≡ true
 
 -- Besides, the locals of the function have values, what it returns is no array, no parameter of a function is one, and branches of its
 -- pars have no parameters.

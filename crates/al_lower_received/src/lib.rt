@@ -1,0 +1,2 @@
+//! What an alt received goes into its target: the operations do what this means. All is in proofs/.
+#![tactic(auto)]
