@@ -1,12 +1,7 @@
 -- A well-typed program is lowered, where its terms are.
 use Rattle.std.proofs.Common.{◌≡◌, ℕ, List, [], ◌∷◌, ◌++◌, Some, refl, sym, ap, ◌∙◌, subst, inl, inr, ⊎_elim}
-use Rattle.std.specs.Prelude.{false, All}
-use Rattle.std.specs.List.{AllByRecursion}
-use Rattle.std.proofs.lemmas.List.Elements.{All-head, All-tail}
 use Rattle.al_typed.specs.declared.program.Function.{Function as FunctionRow}
 use Rattle.al_typed.specs.declared.program.Program.{Program}
-use Rattle.al_typed.specs.Types.{is_array}
-use Rattle.al_typed.specs.Typed.{parameter_types}
 use Rattle.al_typed.specs.WellTyped.{Nest, no_labels, names_in, IsWellTyped}
 use Rattle.al_meaning.specs.Places.{function_at}
 use Rattle.al_ir.specs.Control.{code_of, arguments_of}
@@ -21,7 +16,7 @@ use Rattle.al_lower_statements.proofs.Functions.{FunctionIn, body_of, function_d
 use Rattle.al_lower_statements.proofs.Terms.{Terms, TermsDo, Fits, Premises}
 use Rattle.al_lower_statements.proofs.Statements.{statement_does}
 use Rattle.al_lower_programs.proofs.Layouts.{layouts_are, wide_are}
-use Rattle.al_lower_programs.proofs.Rows.{has_from, row_is, frames, globals_plain, function_is, local_not_void, private_plain, parameters_plain, returns_whole, fresh_fits}
+use Rattle.al_lower_programs.proofs.Rows.{has_from, row_is, frames, globals_plain, function_is, local_not_void, private_plain, parameters_plain, parameters_passed, returns_whole, fresh_fits}
 
 -- In each function of the program at work its terms do what they mean.
 abbrev pub TermsOfAllDo : Terms → Program → Type 0
@@ -30,10 +25,6 @@ TermsOfAllDo T p = (b : Body) → b.program ≡ p → b.ir ≡ lowered p → Ter
 -- the terms of each function fit, and it returns values only
 abbrev pub FunctionsFit : Terms → Program → Type 0
 FunctionsFit T p = (number : ℕ) (g : FunctionRow) → function_at p number ≡ Some g → Fits T (record { names = names_in p g; iterators = 0 }) g.body
-
-each : {A : Type 0} (P : A → Type 0) → (xs : List A) → All P xs → AllByRecursion P xs
-each P [] h = tt
-each P (x ∷ xs) h = (All-head P x xs h, each P xs (All-tail P x xs h))
 
 no_end : (xs : List ℕ) (x : ℕ) → [] ≡ xs ++ x ∷ [] → ⊥
 no_end [] x e = cc
@@ -65,7 +56,7 @@ module _ (T : Terms) (p : Program) (W : IsWellTyped p) (D : TermsOfAllDo T p) wh
         terms = D b same same_ir;
         locals = local_not_void b.program W2 b.function b.row b.there;
         returns = returns_whole b.program W2 b.function b.row b.there;
-        parameters = λ number g callable. each (λ t. is_array t ≡ false) (parameter_types g) (function_is b.program W2 number g callable.0).no_arrays;
+        parameters = λ number g callable. parameters_passed b.program W2 number g callable.0;
         branches = λ branch g there around. ⊎_elim (λ e. absurd (no_end b.row.around b.function (sym e ∙ around))) (λ x. x.1.1.1.1.1.0) (function_is b.program W2 branch g there).stands;
       }
 

@@ -1,9 +1,9 @@
 -- The functions of a lowered program, and what well-typed programs have of their types.
 use Rattle.std.proofs.Common.{◌≡◌, ℕ, zero, suc, ◌+◌, List, [], ◌∷◌, ◌++◌, take, length, Option, Some, None, refl, sym, ap, ap₂, ◌∙◌, subst, ⊎_elim, arith, length-append}
 use Rattle.std.specs.Prelude.{Bool, true, false, ◌&&◌, All, slice_get, sum_by}
-use Rattle.std.specs.List.{flat_map}
+use Rattle.std.specs.List.{AllByRecursion, flat_map}
 use Rattle.std.proofs.lemmas.List.{append_assoc}
-use Rattle.std.proofs.lemmas.List.Elements.{All-head, All-tail}
+use Rattle.std.proofs.lemmas.List.Elements.{All-head, All-tail, All-take, recursion_from_All}
 use Rattle.std.proofs.lemmas.List.Sums.{sum_by-cons}
 use Rattle.std.proofs.lemmas.Option.{same_Some}
 use Rattle.al_typed.specs.declared.ty.Ty.{Ty, Void, Integer, Pointer', Array', Chan', Tuple', Aggregate, Function'}
@@ -16,7 +16,7 @@ use Rattle.al_typed.specs.declared.program.Global.{Global as GlobalRow}
 use Rattle.al_typed.specs.declared.program.Local.{Local as LocalRow}
 use Rattle.al_typed.specs.declared.program.Program.{Program}
 use Rattle.al_typed.specs.Types.{is_void, is_array, may_be_private, is_complete}
-use Rattle.al_typed.specs.Typed.{parameter_types}
+use Rattle.al_typed.specs.Typed.{parameter_types, local_types}
 use Rattle.al_typed.specs.WellTyped.{is_sound, is_stored, IsLocalOf, IsFunction, IsGlobal, IsWellTyped}
 use Rattle.al_meaning.specs.Words.{zero_words}
 use Rattle.al_meaning.specs.Places.{function_at, locals_of, private_words_of, private_place, fresh_privates}
@@ -33,6 +33,7 @@ use Rattle.al_lower_claims.proofs.Homes.{HasNoArrays}
 use Rattle.al_lower_claims.proofs.Privates.{NoArrayGlobals, words_counted}
 use Rattle.al_lower_returns.proofs.Begins.{NoArrays}
 use Rattle.al_lower_returns.proofs.Returns.{zero_fits}
+use Rattle.al_lower_statements.proofs.Terms.{IsPassed}
 use Rattle.al_lower_programs.proofs.Layouts.{get_map, get_take}
 
 -- ---- lists
@@ -141,6 +142,13 @@ module _ (p : Program) (W : IsWellTyped p) where
 
     pub parameters_plain : NoArrays p g.parameters g.locals
     parameters_plain n l e lt = all_at (λ t. is_array t ≡ false) (parameter_types g) n l.ty function_is.no_arrays (get_map (λ (r : LocalRow). r.ty) (take g.parameters g.locals) n l (get_take g.locals g.parameters n l e lt))
+
+    pub parameters_passed : AllByRecursion IsPassed (parameter_types g)
+    parameters_passed = passed (take g.parameters g.locals) (recursion_from_All (IsLocalOf p) (take g.parameters g.locals) (All-take (IsLocalOf p) g.parameters g.locals function_is.locals)) (recursion_from_All (λ t. is_array t ≡ false) (parameter_types g) function_is.no_arrays)
+      where
+        passed : (ls : List LocalRow) → AllByRecursion (IsLocalOf p) ls → AllByRecursion (λ t. is_array t ≡ false) (local_types ls) → AllByRecursion IsPassed (local_types ls)
+        passed [] h g = tt
+        passed (l ∷ ls) h g = ((stored_not_void l.ty h.0.0, g.0), passed ls h.1 g.1)
 
     pub returns_whole : is_void g.returns ≡ false → is_array g.returns ≡ false
     returns_whole nv = ⊎_elim (λ e. absurd (no_both (sym void_is ∙ (ap is_void (sym e) ∙ nv)))) (λ x. x.1) function_is.returns

@@ -34,8 +34,8 @@ use Rattle.al_lower_bodies.proofs.Storing.{block, channel, is_new}
 use Rattle.al_lower_bodies.proofs.Effects.{optional_effect, InitialDoes, declare_does, NewDoes, alloc_does, OldDoes, unalloc_does, check_does}
 use Rattle.al_lower_bodies.proofs.Fors.{for_piece}
 use Rattle.al_lower_received.proofs.Receiving.{received_went}
-use Rattle.al_lower_statements.proofs.Types.{IsCarried, carried, converts_to_no_array}
-use Rattle.al_lower_statements.proofs.Terms.{Terms, OptionalFits, CallFits, TalkFits, Fits, OtherFits, AllFit, Premises}
+use Rattle.al_lower_statements.proofs.Types.{IsCarried, carried, converts_to_value, converts_to_no_array}
+use Rattle.al_lower_statements.proofs.Terms.{Terms, IsPassed, OptionalFits, CallFits, TalkFits, Fits, OtherFits, AllFit, Premises}
 use Rattle.al_lower_returns.proofs.Returns.{return_none_does, return_value_does, become_in_does}
 use Rattle.al_lower_switch.proofs.Cases.{RowsIn, all_in}
 use Rattle.al_lower_switch.proofs.Switches.{CasesFit, switch_does}
@@ -57,6 +57,14 @@ every P Q f (x ∷ xs) h = (f x (All-head P x xs h), every P Q f xs (All-tail P 
 all_back : {A : Type 0} (P : A → Type 0) (xs ys : List A) → AllByRecursion P (xs ++ ys) → AllByRecursion P ys
 all_back P [] ys h = h
 all_back P (x ∷ xs) ys h = all_back P xs ys h.1
+
+all_front : {A : Type 0} (P : A → Type 0) (xs ys : List A) → AllByRecursion P (xs ++ ys) → AllByRecursion P xs
+all_front P [] ys h = tt
+all_front P (x ∷ xs) ys h = (h.0, all_front P xs ys h.1)
+
+no_arrays : (ts : List Ty) → AllByRecursion IsPassed ts → AllByRecursion (λ t. is_array t ≡ false) ts
+no_arrays [] h = tt
+no_arrays (t ∷ ts) h = (h.0.1, no_arrays ts h.1)
 
 same_term : (d e : TExpr) → Some d ≡ Some e → d ≡ e
 same_term d e q = cc
@@ -96,16 +104,18 @@ module _ (T : Terms) (b : Body) (X : Premises T b) where
   start_in line (Call' t function receiver shape arguments) h r =
       let v = h.0 in
       let g = v.1.1.1 in
+      let passed = subst (AllByRecursion IsPassed) g.1.1.1 (X.parameters function g.0 g.1.0) in
+      let behind = all_back IsPassed v.0 (row_types arguments) passed in
       record {
         given = v.0;
-        object_does = X.terms.object line 0 receiver v.0 v.1.0 r.0;
-        values_do = X.terms.values line 0 arguments v.1.1.0 r.1;
+        object_does = X.terms.object line 0 receiver v.0 v.1.0 r.0 (all_front IsPassed v.0 (row_types arguments) passed);
+        values_do = X.terms.values line 0 arguments v.1.1.0 r.1 behind;
         row = g.0;
         there = g.1.0.0;
         no_branch = g.1.0.1;
         returns = g.1.1.0;
         takes = g.1.1.1;
-        no_arrays = all_back (λ t. is_array t ≡ false) v.0 (row_types arguments) (subst (AllByRecursion (λ t. is_array t ≡ false)) g.1.1.1 (X.parameters function g.0 g.1.0));
+        no_arrays = no_arrays (row_types arguments) behind;
       }
   start_in line e h r = absurd (let q = h.1.1 in cc)
 
@@ -153,7 +163,7 @@ module _ (T : Terms) (b : Body) (X : Premises T b) where
   went_in line (talk.Receive t chan) h r = nothing_went b line t chan
   went_in line (talk.ReceiveInto t target chan) h r =
       let v = carries chan t h.1.0 h.1.1.0 in
-      received_went b line t target chan h.1.1.1 v.sound (X.terms.sound_target target h.0) v.not_array (converts_to_no_array t (target_type target) h.1.1.1) (X.terms.target line target h.0 r.0)
+      received_went b line t target chan h.1.1.1 v.sound (X.terms.sound_target target h.0) v.not_array (converts_to_no_array t (target_type target) h.1.1.1) (X.terms.target line target h.0 r.0 (converts_to_value t (target_type target) h.1.1.1, converts_to_no_array t (target_type target) h.1.1.1))
   went_in line (talk.Send chan value) h r = sending_went b line chan value
 
   cases_talk : (line : ℕ) (n : Nest) {m : _} (row : Row_of-TStmt m) → AreStatements (scope_of b 0) (in_cases alt_labels n) row → AllFit T (scope_of b 0) row → AllByRecursion (TalkIn b line) (cases_in row)

@@ -16,7 +16,7 @@ use Rattle.al_typed.specs.declared.statement.TStmt.{TStmt, Block', Declare, Valu
 use Rattle.al_typed.specs.declared.statement.TStmt as stmt
 use Rattle.al_typed.specs.StatementForms as part
 use Rattle.al_typed.specs.Types.{is_void, is_array}
-use Rattle.al_typed.specs.Typed.{type_of, target_type, parameter_types}
+use Rattle.al_typed.specs.Typed.{type_of, target_type, row_types, parameter_types}
 use Rattle.al_typed.specs.WellTyped.{Scope, IsCallable, IsValue, AreValues, IsPlace, IsTarget, IsGiven, is_sound}
 use Rattle.al_meaning.specs.Places.{function_at}
 use Rattle.al_lower_bodies.proofs.Bodies.{Body, scope_of, ValueIn, PlaceIn, ValuesIn, ObjectIn}
@@ -80,21 +80,26 @@ module _ (T : Terms) where
 
 -- ---- what is claimed of terms
 
--- The terms of a function do what they mean, if they are well typed and fit, and have sound types.
+-- a type of what is passed to functions or goes into targets
+abbrev pub IsPassed : Ty → Type 0
+IsPassed t = (is_void t ≡ false) × (is_array t ≡ false)
+
+-- The terms of a function do what they mean, if they are well typed and fit, and have sound types; rows of values, objects and
+-- targets, where their types are passed.
 pub record TermsDo (T : Terms) (b : Body) : Type 0 where
   pub value : (line iterators : ℕ) (e : TExpr) → IsValue (scope_of b iterators) e → T.Value (scope_of b iterators) e → ValueIn b line iterators e
   pub place : (line iterators : ℕ) (place : TPlace) → IsPlace (scope_of b iterators) place → T.Place (scope_of b iterators) place → PlaceIn b line iterators place
-  pub values : (line iterators : ℕ) {m : _} (es : Row_of-TExpr m) → AreValues (scope_of b iterators) es → T.Values (scope_of b iterators) es → ValuesIn b line iterators es
-  pub object : (line iterators : ℕ) (o : Held-TExpr-Call-2) (given : List Ty) → IsGiven (scope_of b iterators) o given → T.Object (scope_of b iterators) o → ObjectIn b line iterators o given
-  pub target : (line : ℕ) (target : TTarget) → IsTarget (scope_of b 0) target → T.Target (scope_of b 0) target → TargetIn b line target
+  pub values : (line iterators : ℕ) {m : _} (es : Row_of-TExpr m) → AreValues (scope_of b iterators) es → T.Values (scope_of b iterators) es → AllByRecursion IsPassed (row_types es) → ValuesIn b line iterators es
+  pub object : (line iterators : ℕ) (o : Held-TExpr-Call-2) (given : List Ty) → IsGiven (scope_of b iterators) o given → T.Object (scope_of b iterators) o → AllByRecursion IsPassed given → ObjectIn b line iterators o given
+  pub target : (line : ℕ) (target : TTarget) → IsTarget (scope_of b 0) target → T.Target (scope_of b 0) target → IsPassed (target_type target) → TargetIn b line target
   pub sound : (e : TExpr) → IsValue (scope_of b 0) e → is_sound b.program.aggregates (type_of e) ≡ true
   pub sound_target : (target : TTarget) → IsTarget (scope_of b 0) target → is_sound b.program.aggregates (target_type target) ≡ true
 
--- Besides, the locals of the function have values, what it returns is no array, no parameter of a function is one, and branches of its
+-- Besides, the locals of the function have values, what it returns is no array, parameters of functions are passed, and branches of its
 -- pars have no parameters.
 pub record Premises (T : Terms) (b : Body) : Type 0 where
   pub terms : TermsDo T b
   pub locals : (n : ℕ) (l : LocalRow) → slice_get b.row.locals n ≡ Some l → is_void l.ty ≡ false
   pub returns : is_void b.row.returns ≡ false → is_array b.row.returns ≡ false
-  pub parameters : (number : ℕ) (g : FunctionRow) → IsCallable b.program number g → AllByRecursion (λ t. is_array t ≡ false) (parameter_types g)
+  pub parameters : (number : ℕ) (g : FunctionRow) → IsCallable b.program number g → AllByRecursion IsPassed (parameter_types g)
   pub branches : (branch : ℕ) (g : FunctionRow) → function_at b.program branch ≡ Some g → g.around ≡ b.row.around ++ b.function ∷ [] → g.parameters ≡ 0

@@ -46,6 +46,25 @@ carried rows t capacity h =
     let y = both_true (is_complete rows t) (not (is_array t)) x.1 in
     record { sound = x.0; not_void = complete_not_void rows t y.0; not_array = not_true (is_array t) y.1 }
 
+-- nothing is made into no value
+pub converts_to_value : (t u : Ty) → converts t u ≡ true → is_void u ≡ false
+unfolding is_void is_word out-Ty out
+converts_to_value t (Integer k) e = refl
+converts_to_value t (Pointer' _ to) e = refl
+converts_to_value t (Array' _ element count) e = refl
+converts_to_value t (Chan' _ element capacity) e = refl
+converts_to_value t (Tuple' _ parts) e = refl
+converts_to_value t (Aggregate number) e = refl
+converts_to_value t (Function' _ returns _ parameters) e = refl
+converts_to_value Void Void e = absurd (cc)
+converts_to_value (Integer k) Void e = absurd (no (both_true (is_word (Integer k)) (is_word Void) e).1)
+converts_to_value (Pointer' s to) Void e = absurd (cc)
+converts_to_value (Chan' s part capacity) Void e = absurd (cc)
+converts_to_value (Tuple' s parts) Void e = absurd (cc)
+converts_to_value (Aggregate number) Void e = absurd (cc)
+converts_to_value (Array' s part n) Void e = absurd (cc)
+converts_to_value (Function' s returns r parameters) Void e = absurd (cc)
+
 -- nothing is made into an array
 pub converts_to_no_array : (t u : Ty) → converts t u ≡ true → is_array u ≡ false
 unfolding is_array is_word out-Ty out

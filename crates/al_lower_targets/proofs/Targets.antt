@@ -46,7 +46,7 @@ pub record AimedDoes (k : Setting) (m : Task (List Found)) (ts : List Ty) (a : A
   pub At : (to : ℕ) → Slots → List Found → Type 0
   pub by : (to pc : ℕ) (slots last : Slots) (env : Env) (s : Still) (next : List Found → Rest) → HasRoom k to → HasVars k env slots → Has k pc (a.code to) → ((fs : List Found) (env2 : Env) (s : Still) (now last : Slots) → At to now fs → HasVars k env2 now → Stays (scene k) to now slots → Run k (next fs env2 s) (pc + length (a.code to)) now last s) → Run k (m env s next) pc slots last s
   pub later : (to : ℕ) (fs : List Found) (now old : Slots) (env env2 : Env) → At to old fs → HasVars k env old → HasVars k env2 now → Stays (scene k) (to + a.count) now old → HasRoom k to → At to now fs
-  pub saves : (us : List Ty) (gs fs : List Found) (own rest : List ℕ) (to from pc : ℕ) (slots last : Slots) (env : Env) (s : Still) (next : Unit {0} → Rest) → At to slots fs → UnitsOfAll k ts own → Holds slots from own → to + a.count ≤ from → HasRoom k to → HasVars k env slots → Has k pc (a.save to from) → ((env2 : Env) (s : Still) (now : Slots) → HasVars k env2 now → ((i : ℕ) → IsFree (scene k) i → now i ≡ slots i) → Run k (save_all k.ways us gs rest env2 s next) (pc + length (a.save to from)) now last s) → Run k (save_all k.ways (ts ++ us) (fs ++ gs) (own ++ rest) env s next) pc slots last s
+  pub saves : (us : List Ty) (gs fs : List Found) (own rest : List ℕ) (to from pc : ℕ) (slots last : Slots) (env : Env) (s : Still) (next : Unit {0} → Rest) → At to slots fs → UnitsOfAll k ts own → Holds slots from own → HasRoom k from → HasRoom k to → HasVars k env slots → Has k pc (a.save to from) → ((env2 : Env) (s : Still) (now : Slots) → HasVars k env2 now → ((i : ℕ) → IsFree (scene k) i → now i ≡ slots i) → Run k (save_all k.ways us gs rest env2 s next) (pc + length (a.save to from)) now last s) → Run k (save_all k.ways (ts ++ us) (fs ++ gs) (own ++ rest) env s next) pc slots last s
 
 module _ (k : Setting) where
   -- a part that goes nowhere
@@ -107,11 +107,11 @@ module _ (k : Setting) where
         let places : fs ++ hs ≡ f ++ (g ++ hs) = ap (λ q. q ++ hs) x.1.1.0 ∙ append_assoc f g hs in
         comes_out (site k) (ap₂ (λ q v. save_all k.ways q (fs ++ hs) v env s next) (append_assoc ts us vs) words)
         (comes_out (site k) (ap (λ q. save_all k.ways (ts ++ (us ++ vs)) q (own1 ++ (own2 ++ rest)) env s next) places)
-        (ha.saves (us ++ vs) (g ++ hs) f own1 (own2 ++ rest) to from pc slots last env s next x.1.1.1.0 fits1 (holds_front own1 own2 from slots held) (omega (arith, le)) room vars (has_front (site k) pc ca cb has) (λ env2 s now vars2 same.
+        (ha.saves (us ++ vs) (g ++ hs) f own1 (own2 ++ rest) to from pc slots last env s next x.1.1.1.0 fits1 (holds_front own1 own2 from slots held) le room vars (has_front (site k) pc ca cb has) (λ env2 s now vars2 same.
         let back : Holds slots (from + n) own2 = holds_at own2 (from + length own1) (from + n) slots (ap (λ i. from + i) n1) (holds_back own1 own2 from slots held) in
-        let room_back : HasRoom k (from + n) = omega (arith, room, le) in
+        let room_back : HasRoom k (from + n) = more_room (scene k) from n le in
         let back2 : Holds now (from + n) own2 = holds_stays (scene k) own2 (from + n) (from + n + length own2) now slots room_back (omega arith) (λ i fr lt. same i fr) back in
-        hb.saves vs hs g own2 rest (to + a.count) (from + n) (pc + length ca) now last env2 s next (hb.later (to + a.count) g now slots env env2 x.1.1.1.1 vars vars2 (λ i fr lt. same i fr) (more_room (scene k) to a.count room)) fits2 back2 (omega (arith, le)) (more_room (scene k) to a.count room) vars2 (has_back (site k) pc ca cb has) (λ env3 s now3 vars3 same3.
+        hb.saves vs hs g own2 rest (to + a.count) (from + n) (pc + length ca) now last env2 s next (hb.later (to + a.count) g now slots env env2 x.1.1.1.1 vars vars2 (λ i fr lt. same i fr) (more_room (scene k) to a.count room)) fits2 back2 room_back (more_room (scene k) to a.count room) vars2 (has_back (site k) pc ca cb has) (λ env3 s now3 vars3 same3.
         let len : pc + length ca + length cb ≡ pc + length (ca ++ cb) = omega (arith, length-append ca cb) in
         moved (site k) len (go env3 s now3 vars3 (λ i fr. same3 i fr ∙ same i fr))))));
   }
@@ -132,7 +132,7 @@ module _ (k : Setting) (plain : NoArrayGlobals k.ways.program k.ways.program.glo
         let n : length own ≡ count_of k t = length_of _ _ fits2 ∙ sym (words_are k.ways.program t na) in
         comes_out (site k) (ap (λ f. save_all k.ways (t ∷ us) (f ++ gs) (own ++ rest) env s next) x.1.0)
         (comes_out (site k) (ap₂ (λ u v. save k.ways t u fd env s (λ z env s. save_all k.ways us gs v env s next)) (take_front (count_of k t) own rest n) (drop_front (count_of k t) own rest n))
-        (save_does k plain t own from to pc slots last env s (λ z env s. save_all k.ways us gs rest env s next) x.1.1 na fits2 holds (λ i l y ty. let q = k.homes.fits i l y in let b = k.above in inr (omega (arith, q, b, room, le))) vars has (λ env2 s now vars2 same still.
+        (save_does k plain t own from to pc slots last env s (λ z env s. save_all k.ways us gs rest env s next) x.1.1 na fits2 holds (λ i l y ty. let q = k.homes.fits i l y in let b = k.above in inr (omega (arith, q, b, le))) vars has (λ env2 s now vars2 same still.
         go env2 s now vars2 same)));
   }
 
@@ -154,7 +154,7 @@ module _ (k : Setting) (plain : NoArrayGlobals k.ways.program k.ways.program.glo
         let len : pc + length ca + length cb + length cd ≡ pc + length (ca ++ (cb ++ cd)) = omega (arith, length-append ca (cb ++ cd), length-append cb cd) in
         comes_out (site k) (ap₂ (λ q f. save_all k.ways q f v env2 s (λ u env s. next (Some v) env s)) (sym (append-nil ts)) (sym (append-nil fs)))
         (comes_out (site k) (ap (λ w. save_all k.ways (ts ++ []) (fs ++ []) w env2 s (λ u env s. next (Some v) env s)) (sym (append-nil v)))
-        (ha.saves [] [] fs v [] to (to + a.count) (pc + length ca + length cb) now2 last2 env2 s (λ u env s. next (Some v) env s) at2 (to_parts v fits) holds (omega arith) room vars2 (has_back (site k) (pc + length ca) cb cd tail) (λ env3 s now3 vars3 same3.
+        (ha.saves [] [] fs v [] to (to + a.count) (pc + length ca + length cb) now2 last2 env2 s (λ u env s. next (Some v) env s) at2 (to_parts v fits) holds room2 room vars2 (has_back (site k) (pc + length ca) cb cd tail) (λ env3 s now3 vars3 same3.
         let held : Holds now3 (to + a.count) v = holds_stays (scene k) v (to + a.count) (to + a.count + length v) now3 now2 room2 (omega arith) (λ i fr lt. same3 i fr) holds in
         moved (site k) len (go v env3 s now3 last2 fits vars3 (λ i fr lt. same3 i fr ∙ (st2 i fr (omega (arith, lt)) ∙ st1 i fr lt)) held (behind (omega arith))))))));
   })
