@@ -1,5 +1,5 @@
 -- Harts follow the operations of a program whose image is laid out.
-use Rattle.std.proofs.Common.{◌≡◌, ℕ, zero, suc, List, [], ◌∷◌, Option, Some, None, refl, sym, subst}
+use Rattle.std.proofs.Common.{◌≡◌, ℕ, zero, suc, List, [], ◌∷◌, Option, Some, None, refl, subst}
 use Rattle.al_ir.specs.declared.ir.Ir.{Ir}
 use Rattle.al_ir.specs.declared.ir.Operation.{Operation}
 use Rattle.al_ir.specs.declared.op.Op.{Op}
@@ -14,7 +14,7 @@ use Rattle.rv_form.specs.Layout.{Layout}
 use Rattle.rv_match.specs.Match.{Private, InFrame}
 use Rattle.rv_match.proofs.Steps.{Does}
 use Rattle.rv_alike.specs.Within.{places, live_in, midway_in}
-use Rattle.rv_alike.specs.LaidOut.{IsLaidOut, IsLeft, FollowsLeft}
+use Rattle.rv_alike.specs.LaidOut.{IsLaidOut}
 use Rattle.al_ir.specs.Meaning.{resume}
 use Rattle.rv_match.specs.Following.{Follows}
 use Rattle.rv_match.specs.Match.{Reaches, Plain, Match, IfNone, InFrames}
@@ -26,9 +26,10 @@ use Rattle.rv_alike.proofs.OnLongs.{long, zeroes, convert}
 use Rattle.rv_alike.proofs.OnFlow.{skip, skip_if_zero, skip_if_set, skip_unless, go_to, back, turn, invoke, become, leave, terminate}
 use Rattle.rv_alike.proofs.OnActs.{load, store, alloc, free, new_chan, free_chan, can_recv, can_send, put_byte, put_character, put_decimal, put_long_decimal, put_hex, put_long_hex, print, trap}
 use Rattle.rv_alike.proofs.OnTalks.{talk_goes, proc, task, par}
+use Rattle.rv_alike.proofs.OnPointers.{invoke_pointer}
 use Rattle.rv_alike.proofs.OnUnits.{load_units, store_units, clear_units, put_text}
 
-module _ (ir : Ir) (image : Contents) (l : Layout) (all : IsLaidOut ir image l) (rest : FollowsLeft ir image l all.homes) where
+module _ (ir : Ir) (image : Contents) (l : Layout) (all : IsLaidOut ir image l) where
   abbrev Matches : (left : ℕ) (fr : IrFrame) (below : List IrFrame) (unit : ℕ) (c : Control) (h : Hart) → Type 0
   Matches left fr below unit c h = InFrame ir image (places l) (live_in ir l all.homes) (midway_in ir l) left fr below unit c.text c.last h
 
@@ -46,9 +47,6 @@ module _ (ir : Ir) (image : Contents) (l : Layout) (all : IsLaidOut ir image l) 
       on zero m1 r = m1
       on (suc n) m1 r =
           absurd (none n fr.slots (under (places l) below) h (subst (λ (y : Op). midway_by l y fr.function fr.pc (suc n) fr.slots (under (places l) below) h) e (subst (λ (y : Option Operation). midway_at l y fr.function fr.pc (suc n) fr.slots (under (places l) below) h) at r)))
-
-    left_over : (x : Op) → o.op ≡ x → IsLeft x → Matches left fr below 0 c h → Goes x
-    left_over x e is m = subst (λ (y : Op). Goes y) e (rest left fr below c u h p o at (subst IsLeft (sym e) is) m same fine)
 
     by_form : (x : Op) → o.op ≡ x → Matches left fr below c.unit c h → Goes x
     by_form (op.Constant to w) e m = constant ir image l all left fr below c u h p o at (as_zero (op.Constant to w) e (λ n slots sp g q. q) m) same fine to w e
@@ -99,7 +97,7 @@ module _ (ir : Ir) (image : Contents) (l : Layout) (all : IsLaidOut ir image l) 
     by_form (op.LoadUnits to a offset layout) e m = load_units ir image l all left fr below c u h p o at m same fine to a offset layout e
     by_form (op.StoreUnits a offset layout from) e m = store_units ir image l all left fr below c u h p o at m same fine a offset layout from e
     by_form (op.ClearUnits a offset layout) e m = clear_units ir image l all left fr below c u h p o at m same fine a offset layout e
-    by_form (op.InvokePointer class pointer arguments) e m = left_over (op.InvokePointer class pointer arguments) e tt (as_zero (op.InvokePointer class pointer arguments) e (λ n slots sp g q. q) m)
+    by_form (op.InvokePointer class pointer from) e m = invoke_pointer ir image l all left fr below c u h p o at (as_zero (op.InvokePointer class pointer from) e (λ n slots sp g q. q) m) same fine class pointer from e
     by_form (op.Talk branches records to got) e m = talk_goes ir image l all left fr below c u h p o at (as_zero (op.Talk branches records to got) e (λ n slots sp g q. q) m) same fine branches records to got e
     by_form (op.Proc function arguments words) e m = proc ir image l all left fr below c u h p o at (as_zero (op.Proc function arguments words) e (λ n slots sp g q. q) m) same fine function arguments words e
     by_form (op.Task function arguments words) e m = task ir image l all left fr below c u h p o at (as_zero (op.Task function arguments words) e (λ n slots sp g q. q) m) same fine function arguments words e

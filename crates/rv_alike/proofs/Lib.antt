@@ -6,5 +6,6 @@ pub mod OnLongs
 pub mod OnFlow
 pub mod OnUnits
 pub mod OnTalks
+pub mod OnPointers
 pub mod Following
 pub mod Joining

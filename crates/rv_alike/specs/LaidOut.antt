@@ -1,34 +1,33 @@
 -- What an image has to have for its harts to follow the operations of a program.
-use Rattle.std.specs.Prelude.{◌≡◌, ℕ, ◌*◌, ◌^◌, ◌<◌, ◌≤◌, Bool, true, List, length, slice_get, Some}
+use Rattle.std.specs.Prelude.{◌≡◌, ℕ, ◌+◌, ◌*◌, ◌^◌, ◌<◌, ◌≤◌, Bool, true, List, [], ◌∷◌, length, slice_get, All, Some}
 use Rattle.al_base.specs.declared.arith.Op.{Op as Arith}
 use Rattle.al_ir.specs.Bounds.{IsBounded}
-use Rattle.al_ir.specs.Control.{Frame as IrFrame, Control, function_at, stack_of, arguments_of, operation_at}
-use Rattle.al_ir.specs.Meaning.{resume}
-use Rattle.al_ir.specs.Step.{step_op, here_at}
+use Rattle.al_ir.specs.Control.{function_at, stack_of, arguments_of, operation_at}
 use Rattle.al_ir.specs.declared.ir.Function.{Function}
 use Rattle.al_ir.specs.declared.ir.Ir.{Ir}
 use Rattle.al_ir.specs.declared.ir.Operation.{Operation}
 use Rattle.al_ir.specs.declared.ir.Run.{Run}
-use Rattle.al_ir.specs.declared.op.Op.{Op}
-use Rattle.al_ir.specs.declared.op.Op.TheVariants.{Long, InvokePointer}
+use Rattle.al_ir.specs.declared.op.Op.TheVariants.{Long}
 use Rattle.rv_isa.specs.declared.image.Contents.{Contents}
-use Rattle.rv_exec.specs.Hart.{Hart}
-use Rattle.rv_exec.specs.Calls.{Privates, has_function}
+use Rattle.rv_exec.specs.Calls.{has_function}
 use Rattle.rv_exec.specs.Machine.{line_of, entry_of}
 use Rattle.rv_long.specs.declared.op.LongOp.{LongOp}
 use Rattle.rv_code.specs.Jumps.{place}
 use Rattle.rv_code.specs.Pieces.{call_code}
-use Rattle.rv_code.specs.Runs.{Stands, Fine}
+use Rattle.rv_code.specs.Runs.{Stands}
+use Rattle.rv_form.specs.Dispatch.{tree, tree_width, tree_code}
 use Rattle.rv_form.specs.Layout.{Layout}
 use Rattle.rv_form.specs.Longs.{division_of, routine_code}
 use Rattle.rv_form.specs.Template.{template}
-use Rattle.rv_match.specs.Following.{Follows}
 use Rattle.rv_match.specs.Laid.{Laid}
-use Rattle.rv_match.specs.Match.{Private, InFrame, Match}
-use Rattle.rv_match.specs.Places.{full}
 use Rattle.rv_regs.specs.Homes.{AreHomes}
 use Rattle.rv_flow.specs.Functions.{Begins}
-use Rattle.rv_alike.specs.Within.{places, live_in, midway_in}
+use Rattle.rv_alike.specs.Within.{places, live_in}
+
+-- how many words the first function of a class takes
+abbrev pub class_words : Ir → List ℕ → ℕ
+class_words ir [] = 0
+class_words ir (f ∷ fs) = arguments_of (function_at ir f)
 
 pub record IsLaidOut (ir : Ir) (image : Contents) (l : Layout) : Type 0 where
   pub small : length image.code ≤ 2 ^ 23
@@ -51,17 +50,8 @@ pub record IsLaidOut (ir : Ir) (image : Contents) (l : Layout) : Type 0 where
   pub slots : (f : ℕ) (g : Function) → function_at ir f ≡ Some g → l.slots f ≡ g.slots
   pub arguments : (f : ℕ) → l.arguments f ≡ arguments_of (function_at ir f)
   pub runs : (n : ℕ) (runs : List Run) → slice_get ir.layouts n ≡ Some runs → l.runs n ≡ runs
-
--- ---- operations whose lemmas are premises still
-
-abbrev pub IsLeft : Op → Type 0
-IsLeft (InvokePointer class pointer arguments) = Unit {0}
-IsLeft _ = ⊥
-
--- harts follow such operations
-abbrev pub FollowsLeft : (ir : Ir) (image : Contents) (l : Layout) → ((f : ℕ) → AreHomes ir f (l.home f)) → Type 0
-FollowsLeft ir image l homes =
-    (left : ℕ) (fr : IrFrame) (below : List IrFrame) (c : Control) (u : List ℕ) (h : Hart) (p : Privates) (o : Operation)
-    → operation_at ir fr.function fr.pc ≡ Some o → IsLeft o.op
-    → InFrame ir image (places l) (live_in ir l homes) (midway_in ir l) left fr below 0 c.text c.last h → Private ir u p → Fine h p
-    → Follows image resume (Private ir) (Match ir image (places l) (live_in ir l homes) (midway_in ir l)) full left h p (step_op o.op (here_at ir c fr below o.line u))
+  -- the functions that are called through pointers have dispatchers, and those of one class take equally many words
+  pub dispatches : (class : ℕ) (fs : List ℕ) → slice_get ir.classes class ≡ Some fs → Stands image.code (l.dispatcher class) (tree_code l.entry l.stack (l.dispatcher class) (tree fs))
+  pub dispatchers_low : (class : ℕ) (fs : List ℕ) → slice_get ir.classes class ≡ Some fs → l.dispatcher class + tree_width (tree fs) < 2 ^ 23
+  pub class_arguments : (class : ℕ) (fs : List ℕ) → slice_get ir.classes class ≡ Some fs → l.class_arguments class ≡ class_words ir fs
+  pub equally : (class : ℕ) (fs : List ℕ) → slice_get ir.classes class ≡ Some fs → All (λ g. arguments_of (function_at ir g) ≡ class_words ir fs) fs

@@ -1,0 +1,4 @@
+pub mod Trees
+pub mod Dispatching
+pub mod Reaching
+pub mod Pointing
