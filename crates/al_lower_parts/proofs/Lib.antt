@@ -1,0 +1,2 @@
+pub mod InTargets
+pub mod Passing
