@@ -100,7 +100,7 @@ fn races_are_as_their_schedules_say(rt: HostRuntime) -> Result<(), Fail> {
         "--entries",
         "1000",
     ];
-    for _ in 0u32..1000 {
+    for _ in 0u32..400 {
         let (report, out) = called(&rt, rt.alloc(), &RACES, &words, &OpenGate)?;
         assert_eq!(&rt; report.end, End::Ran(Over::Done));
         assert_eq!(&rt; report.schedule.len(), 136);
