@@ -1,0 +1,4 @@
+pub mod Widths
+pub mod Placing
+pub mod Meeting
+pub mod Laying
