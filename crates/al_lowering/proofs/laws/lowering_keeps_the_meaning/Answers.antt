@@ -1,0 +1,15 @@
+use Rattle.al_lowered.proofs.Chain.{simulates}
+use Rattle.al_lower_code.specs.Functions.{lowered}
+use Rattle.al_lower_whole.proofs.Whole.{whole_lowered}
+use Rattle.al_lowering.proofs.Addresses.{is_addressed, are_words}
+use Rattle.al_lowering.proofs.Statements.{functions_fit}
+use Rattle.al_lowering.proofs.laws.lowering_keeps_the_meaning.Goals as goal
+
+pub returns-clause-lowered : goal.returns-clause-lowered
+returns-clause-lowered c = λ p typed words fit. whole_lowered p typed (is_addressed p words) (functions_fit p fit)
+
+pub returns-clause-alike : goal.returns-clause-alike
+returns-clause-alike c = λ p start typed words fit known. simulates p (lowered p) (whole_lowered p typed (is_addressed p words) (functions_fit p fit)) start known
+
+pub returns-clause-addressed : goal.returns-clause-addressed
+returns-clause-addressed c = are_words
