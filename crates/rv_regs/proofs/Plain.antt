@@ -10,6 +10,7 @@ plain_homes ir function = record {
   found_by_address = λ pc t o is named. refl;
   live = λ pc t. true;
   is_liveness = record { read = λ pc t o is reads. refl; kept = λ pc next t o is follows lives. inr refl };
+  arguments_apart = λ t u a b lives others. others;
   apart = λ pc t u a b others. others;
   written_apart = λ pc next t u o is follows writes lives others. others;
   across_calls = λ pc next t o is calls follows lives. refl;

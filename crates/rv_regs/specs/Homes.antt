@@ -1,8 +1,8 @@
 -- What code may rest on of the homes of a function's slots.
-use Rattle.std.specs.Prelude.{◌≡◌, ◌≢◌, ℕ, ◌≤◌, ◌⊎◌, Bool, true, List, Contains, Option, Some, None, slice_get}
+use Rattle.std.specs.Prelude.{◌≡◌, ◌≢◌, ℕ, ◌<◌, ◌≤◌, ◌⊎◌, Bool, true, List, Contains, Option, Some, None, slice_get}
 use Rattle.al_ir.specs.declared.ir.Operation.{Operation}
 use Rattle.al_ir.specs.declared.ir.Ir.{Ir}
-use Rattle.al_ir.specs.Control.{operation_at}
+use Rattle.al_ir.specs.Control.{operation_at, function_at, arguments_of}
 use Rattle.rv_code.specs.Homes.{Apart}
 use Rattle.rv_code.specs.declared.home.Home.{Home}
 use Rattle.rv_code.specs.declared.home.Home.TheVariants.{Frame, Saved}
@@ -27,6 +27,8 @@ pub record AreHomes (ir : Ir) (function : ℕ) (home : ℕ → Home) : Type 0 wh
   pub found_by_address : (pc t : ℕ) (o : Operation) → operation_at ir function pc ≡ Some o → IsIn t (in_frame ir o.op) → home t ≡ Frame t
   pub live : (pc t : ℕ) → Bool
   pub is_liveness : IsLiveness ir function live
+  -- all arguments come to their homes at a function's start, and those that are live keep them
+  pub arguments_apart : (t u : ℕ) → t < arguments_of (function_at ir function) → u < arguments_of (function_at ir function) → live 0 t ≡ true → t ≢ u → Apart (home t) (home u)
   pub apart : (pc t u : ℕ) → live pc t ≡ true → live pc u ≡ true → t ≢ u → Apart (home t) (home u)
   pub written_apart : (pc next t u : ℕ) (o : Operation) → operation_at ir function pc ≡ Some o → Contains (comes_next pc o.op) next
       → IsIn t (writes ir o.op) → live next u ≡ true → t ≢ u → Apart (home t) (home u)
