@@ -2,3 +2,4 @@ pub mod Widths
 pub mod Placing
 pub mod Meeting
 pub mod Laying
+pub mod Beginning

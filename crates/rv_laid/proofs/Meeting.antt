@@ -13,7 +13,7 @@ use Rattle.rv_laid.proofs.Placing.{number, operations_length}
 
 -- ---- pieces of the same widths
 
-abbrev SameWidths : List Piece → List Piece → Type 0
+abbrev pub SameWidths : List Piece → List Piece → Type 0
 SameWidths [] [] = Unit {0}
 SameWidths (p ∷ ps) (q ∷ qs) = (length p.code ≡ length q.code) × SameWidths ps qs
 SameWidths _ _ = ⊥
@@ -24,7 +24,7 @@ same_append [] b (x ∷ c) d p q = absurd p
 same_append (x ∷ a) b [] d p q = absurd p
 same_append (x ∷ a) b (y ∷ c) d p q = (p.0, same_append a b c d p.1 q)
 
-same_before : (a b : List Piece) → SameWidths a b → (k : ℕ) → before a k ≡ before b k
+pub same_before : (a b : List Piece) → SameWidths a b → (k : ℕ) → before a k ≡ before b k
 same_before [] [] s k = refl
 same_before [] (y ∷ b) s k = absurd s
 same_before (x ∷ a) [] s k = absurd s
@@ -42,7 +42,7 @@ module _ (homes : Homes) (ir : Ir) (p q : Places) (same : p.reaches ≡ q.reache
   same_operations f pc [] = tt
   same_operations f pc (o ∷ os) = (template_width homes ir p q same f pc o.op, same_operations f (pc + 1) os)
 
-  same_functions : (f : ℕ) (fs : List Function) → SameWidths (function_pieces l f fs) (function_pieces m f fs)
+  pub same_functions : (f : ℕ) (fs : List Function) → SameWidths (function_pieces l f fs) (function_pieces m f fs)
   same_functions f [] = tt
   same_functions f (g ∷ fs) = same_append (pieces_of l f g) (function_pieces l (f + 1) fs) (pieces_of m f g) (function_pieces m (f + 1) fs) (refl, same_operations f 0 g.code) (same_functions (f + 1) fs)
 
@@ -64,7 +64,7 @@ module _ (homes : Homes) (ir : Ir) (p q : Places) (same : p.reaches ≡ q.reache
         dispatchers_width (at + tree_width (tree class)) classes,
       )
 
-  head_width : functions_place l ir ≡ functions_place m ir
+  pub head_width : functions_place l ir ≡ functions_place m ir
   head_width =
       let k : length (routines_code ir ++ dispatchers_code l (dispatchers_place ir) ir.classes) ≡ length (routines_code ir ++ dispatchers_code m (dispatchers_place ir) ir.classes) =
       omega (
@@ -77,7 +77,7 @@ module _ (homes : Homes) (ir : Ir) (p q : Places) (same : p.reaches ≡ q.reache
 
 -- ---- places one behind the other
 
-before_back : (a b : List Piece) (k : ℕ) → before (a ++ b) (length a + k) ≡ code_width a + before b k
+pub before_back : (a b : List Piece) (k : ℕ) → before (a ++ b) (length a + k) ≡ code_width a + before b k
 before_back [] b k = let e : 0 + k ≡ k = omega arith in ap (before b) e ∙ omega arith
 before_back (p ∷ a) b k =
     let e : suc (length a) + k ≡ suc (length a + k) = omega arith in

@@ -31,7 +31,7 @@ get_back : {X : Type 0} (a b : List X) (k : ℕ) → slice_get (a ++ b) (length 
 get_back [] b k = let e : 0 + k ≡ k = omega arith in ap (slice_get b) e
 get_back (y ∷ a) b k = let e : suc (length a) + k ≡ suc (length a + k) = omega arith in ap (slice_get (y ∷ (a ++ b))) e ∙ get_back a b k
 
-before_next : (ps : List Piece) (k : ℕ) (p : Piece) → slice_get ps k ≡ Some p → before ps (suc k) ≡ before ps k + length p.code
+pub before_next : (ps : List Piece) (k : ℕ) (p : Piece) → slice_get ps k ≡ Some p → before ps (suc k) ≡ before ps k + length p.code
 before_next [] k p e = absurd (cc)
 before_next (q ∷ ps) zero p e = let same : q ≡ p = cc in on ps (ap (λ (r : Piece). length r.code) same) where
   on : (rest : List Piece) → length q.code ≡ length p.code → length q.code + before rest 0 ≡ 0 + length p.code
@@ -119,6 +119,15 @@ module _ (ir : Ir) (image : Contents) (l : Layout) (code_is : map instruction_of
 
     on : (b d : Bool) (n : ℕ) → b ≡ true → d ≡ true → n ≡ j → (if b && d then line_at n image.lines else 0) ≡ line_at j image.lines
     on b d n p q e = rw (p, q, e) refl
+
+  -- any piece
+  pub piece_there_stands : (n : ℕ) (p : Piece) → slice_get pieces n ≡ Some p → Stands image.code (functions_place l ir + before pieces n) p.code
+  piece_there_stands n p there = piece_stands image.code (functions_place l ir) pieces n p functions_stand there
+
+  pub piece_there_line : (n : ℕ) (p : Piece) → slice_get pieces n ≡ Some p → (j : ℕ) → functions_place l ir + before pieces n ≤ j → j < functions_place l ir + before pieces n + length p.code → line_of image (place j) ≡ p.line
+  piece_there_line n p there j a b =
+      line_there j (omega (arith, b, before_next pieces n p there, before_all pieces (suc n), code_length)) ∙ ap (line_at j) lines_are
+      ∙ line_is pieces (functions_place l ir) n j 0 p there a b
 
   module _ (f pc : ℕ) (o : Operation) (at : operation_at ir f pc ≡ Some o) where
     abbrev piece : Piece
