@@ -24,6 +24,7 @@ const BITS: u32 = 64;
 /// registers have the operands and the result. That the value is the wrapped one is stated by `Computes` in
 /// `specs/Long.antt`.
 pub fn routine(alloc: Global, op: LongOp) -> Result<Vec<AsmLine>, NoMemory>
+    ensures code { IfOk result (λ lines. lines.items ≡ code_of op) }
     ensures computes { IfOk result (λ lines. Computes op lines.items) }
     ensures straight { IfOk result (λ lines. All IsArithmetic lines.items) }
     ensures in_range { IfOk result (λ lines. All InRange (instructions_of lines.items)) }

@@ -1,0 +1,5 @@
+//! Emits the instructions of operations on pairs of words, and the routines of division that they call.
+#![tactic(auto)]
+
+pub mod longs;
+pub mod routines;
