@@ -1,0 +1,6 @@
+pub mod Bounded
+pub mod Having
+pub mod Heads
+pub mod Imaging
+pub mod Pieces
+pub mod Steps
