@@ -30,7 +30,7 @@ entries_get l first at (y ∷ fs) (suc k) g e =
     entries_get l (first + 1) (at + code_width (pieces_of l first y)) fs k g e
     ∙ omega (arith, ap (before (pieces_of l first y ++ function_pieces l (first + 1) fs)) far, before_back (pieces_of l first y) (function_pieces l (first + 1) fs) (number fs k))
 
-found : (fs : List Function) (k : ℕ) → k < length fs → (g : Function) × (slice_get fs k ≡ Some g)
+pub found : (fs : List Function) (k : ℕ) → k < length fs → (g : Function) × (slice_get fs k ≡ Some g)
 found [] k less = absurd (omega (arith, less))
 found (y ∷ fs) zero less = (y, refl)
 found (y ∷ fs) (suc k) less = found fs k (omega (arith, less))

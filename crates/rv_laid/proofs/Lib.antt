@@ -3,3 +3,5 @@ pub mod Placing
 pub mod Meeting
 pub mod Laying
 pub mod Beginning
+pub mod Heading
+pub mod Whole

@@ -46,7 +46,7 @@ module _ (homes : Homes) (ir : Ir) (p q : Places) (same : p.reaches ≡ q.reache
   same_functions f [] = tt
   same_functions f (g ∷ fs) = same_append (pieces_of l f g) (function_pieces l (f + 1) fs) (pieces_of m f g) (function_pieces m (f + 1) fs) (refl, same_operations f 0 g.code) (same_functions (f + 1) fs)
 
-  tree_length : (entry stack : ℕ → ℕ) (at : ℕ) (t : Tree) → length (tree_code entry stack at t) ≡ tree_width t
+  pub tree_length : (entry stack : ℕ → ℕ) (at : ℕ) (t : Tree) → length (tree_code entry stack at t) ≡ tree_width t
   tree_length entry stack at Nothing = refl
   tree_length entry stack at (Is f) = refl
   tree_length entry stack at (Split f below above) =

@@ -96,7 +96,7 @@ module _ (ir : Ir) (image : Contents) (l : Layout) (code_is : map instruction_of
   map_length f [] = refl
   map_length f (x ∷ xs) = ap (λ n. suc n) (map_length f xs)
 
-  code_length : length image.code ≡ functions_place l ir + code_width pieces
+  pub code_length : length image.code ≡ functions_place l ir + code_width pieces
   code_length =
       sym (map_length instruction_of image.code) ∙ ap length code_is ∙ map_length (λ (i : Instr). Some i) (code_by l ir) ∙ length-append (head_code l ir) (all_code pieces)
 
@@ -106,7 +106,7 @@ module _ (ir : Ir) (image : Contents) (l : Layout) (code_is : map instruction_of
   pub placed_low : (f pc : ℕ) → placed f pc ≤ length image.code
   placed_low f pc = omega (arith, code_length, before_all pieces (number ir.functions f + suc pc))
 
-  line_there : (j : ℕ) → j < length image.code → line_of image (place j) ≡ line_at j image.lines
+  pub line_there : (j : ℕ) → j < length image.code → line_of image (place j) ≡ line_at j image.lines
   line_there j less = on (nat_le CODE_START (place j)) (nat_lt ((place j - CODE_START) / 4) (length image.code)) ((place j - CODE_START) / 4) start within index where
     start : nat_le CODE_START (place j) ≡ true
     start = grind (arith, nat_tests)
