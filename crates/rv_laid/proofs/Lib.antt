@@ -5,3 +5,4 @@ pub mod Laying
 pub mod Beginning
 pub mod Heading
 pub mod Whole
+pub mod Following
