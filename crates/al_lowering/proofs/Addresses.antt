@@ -1,5 +1,5 @@
 -- Addresses that are words, as lowering was proved with them.
-use Rattle.std.proofs.Common.{◌≡◌, ◌^◌, ◌<◌, ◌≤◌, length}
+use Rattle.std.proofs.Common.{◌^◌, ◌<◌, ◌≤◌, length}
 use Rattle.al_typed.specs.declared.program.Program.{Program}
 use Rattle.al_lower_whole.proofs.Addresses.{IsAddressed}
 use Rattle.al_lower_whole.proofs.Addresses as whole

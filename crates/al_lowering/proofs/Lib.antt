@@ -1,3 +1,5 @@
 mod Terms
 mod Statements
 mod Addresses
+mod Main
+mod Example

@@ -1,9 +1,9 @@
 -- The statements of a fit program fit, as lowering was proved for them.
 use Rattle.std.proofs.Common.{◌≡◌, ℕ, List, [], ◌∷◌, length, Option, Some, None}
-use Rattle.std.specs.Prelude.{⊤, false}
+use Rattle.std.specs.Prelude.{All, slice_get}
 use Rattle.std.specs.List.{AllByRecursion}
+use Rattle.std.proofs.lemmas.List.Elements.{All-head, All-tail}
 use Rattle.al_typed.specs.declared.expression.TExpr.{TExpr, Call'}
-use Rattle.al_typed.specs.declared.expression.TPlace.{TPlace}
 use Rattle.al_typed.specs.declared.program.Function.{Function}
 use Rattle.al_typed.specs.declared.program.Program.{Program}
 use Rattle.al_typed.specs.declared.statement.TBounds.{TBounds}
@@ -13,60 +13,80 @@ use Rattle.al_typed.specs.declared.statement.TInitializer.{TInitializer}
 use Rattle.al_typed.specs.declared.statement.TStmt.{TStmt, Block', Declare, Value, If', Switch', Alt', AltCase, Return, Become, Alloc, Unalloc, Check, Proc, Task, Held-TStmt-If-3, Row_of-TStmt, end_of-TStmt, more_of-TStmt}
 use Rattle.al_typed.specs.declared.statement.TStmt as stmt
 use Rattle.al_typed.specs.StatementForms as part
+use Rattle.al_typed.specs.WellTyped.{Nest, inside, in_loop, in_cases, switch_labels, alt_labels, no_labels, Scope, CaseLabels, IsAltCase, IsValue, IsStatement, IsOther, AreStatements, IsOptionalCondition, IsOptionalValue, IsCall, AreBounds, IsInitializer, Allocates, GivesBack, Communicates, IsWellTyped}
 use Rattle.al_lower_statements.proofs.Terms.{OptionalFits, CallFits, TalkFits, Fits, OtherFits, AllFit}
+use Rattle.al_lower_expressions.proofs.Premises.{Reaches}
 use Rattle.al_lower_programs.proofs.Programs.{FunctionsFit}
 use Rattle.al_lower_whole.proofs.Whole.{reaching}
-use Rattle.al_lowering.specs.Fitting.{IsFitValue, IsFitPlace, IsFitIfThere, IsFitTalk, IsFitStatement, IsFitOther, AreFitStatements, IsFit}
+use Rattle.al_lowering.specs.Fitting.{IsFitValue, IsFitIfThere, IsFitTalk, IsFitStatement, IsFitOther, AreFitStatements, IsFit}
 use Rattle.al_lowering.proofs.Terms.{scope, reaches, row_reaches, place_reaches, target_reaches, object_reaches}
 
-each : {A : Type 0} (P Q : A → Type 0) (xs : List A) → ((x : A) → P x → Q x) → AllByRecursion P xs → AllByRecursion Q xs
-each P Q [] g h = tt
-each P Q (x ∷ xs) g h = (g x h.0, each P Q xs g h.1)
+each : {A : Type 0} (V F R : A → Type 0) → ((x : A) → V x → F x → R x) → (xs : List A) → All V xs → AllByRecursion F xs → AllByRecursion R xs
+each V F R g [] v h = tt
+each V F R g (x ∷ xs) v h = (g x (All-head V x xs v) h.0, each V F R g xs (All-tail V x xs v) h.1)
 
-module _ (p : Program) (f : Function) where
-  optional_fits : (e : Option TExpr) → IsFitIfThere p f e → OptionalFits reaching (scope p f 0) e
-  optional_fits None h = tt
-  optional_fits (Some e) h = reaches p f 0 e h
+module _ (p : Program) (W : IsWellTyped p) (number : ℕ) (f : Function) (there : slice_get p.functions number ≡ Some f) where
+  abbrev here : Scope
+  here = scope p W number f there 0
 
-  call_fits : (e : TExpr) → IsFitValue p f e → CallFits reaching (scope p f 0) e
-  call_fits (Call' t function receiver _ arguments) h = (object_reaches p f 0 receiver h.0, row_reaches p f 0 arguments h.1)
-  call_fits _ h = tt
+  value_fits : (e : TExpr) → IsValue here e → IsFitValue e → Reaches here e
+  value_fits e v h = reaches p W number f there 0 e v h
 
-  talk_fits : (c : TCommunication) → IsFitTalk p f c → TalkFits reaching (scope p f 0) c
-  talk_fits (talk.Receive t chan) h = reaches p f 0 chan h
-  talk_fits (talk.ReceiveInto t target chan) h = (target_reaches p f 0 target h.0, reaches p f 0 chan h.1)
-  talk_fits (talk.Send chan value) h = (reaches p f 0 chan h.0, reaches p f 0 value h.1)
+  optional_fits : (e : Option TExpr) → IsOptionalValue here e → IsFitIfThere e → OptionalFits reaching here e
+  optional_fits None v h = tt
+  optional_fits (Some e) v h = value_fits e v h
+
+  condition_fits : (e : Option TExpr) → IsOptionalCondition here e → IsFitIfThere e → OptionalFits reaching here e
+  condition_fits None v h = tt
+  condition_fits (Some e) v h = value_fits e v.0 h
+
+  call_fits : (e : TExpr) → IsCall here e → IsFitValue e → CallFits reaching here e
+  unfolding IsValue
+  call_fits (Call' t function receiver _ arguments) v h = (object_reaches p W number f there 0 receiver v.0.0 v.0.1.0 h.0, row_reaches p W number f there 0 arguments v.0.1.1.0 h.1)
+  call_fits _ v h = tt
+
+  talk_fits : (c : TCommunication) → Communicates here c → IsFitTalk c → TalkFits reaching here c
+  talk_fits (talk.Receive t chan) v h = value_fits chan v.0 h
+  talk_fits (talk.ReceiveInto t target chan) v h = (target_reaches p W number f there 0 target v.0 h.0, value_fits chan v.1.0 h.1)
+  talk_fits (talk.Send chan value) v h = (value_fits chan v.0 h.0, value_fits value v.1.0 h.1)
+
+  case_fits : (labels : CaseLabels) (c : TCommunication) → IsAltCase labels here c → IsFitTalk c → TalkFits reaching here c
+  case_fits alt_labels c v h = talk_fits c v h
+  case_fits (switch_labels k) c v h = absurd v
+  case_fits no_labels c v h = absurd v
 
   mutual
-    fits : (a : TStmt) → IsFitStatement p f a → Fits reaching (scope p f 0) a
-    fits (Block' _ _ body) h = all_fit body h
-    fits (Declare _ is) h = each _ _ is (λ (i : TInitializer) g. (reaches p f 0 i.value g, tt)) h
-    fits (Value _ ts e) h = (each _ _ ts (λ (t : TBounds) g. (reaches p f 0 t.from g.0, reaches p f 0 t.to g.1)) h.0, reaches p f (length ts) e h.1)
-    fits (part.label _ _ body) h = fits body h
-    fits (If' _ e _ (more_of-TStmt chosen end_of-TStmt) other) h = (reaches p f 0 e h.0, (fits chosen h.1.0, other_fits other h.1.1))
-    fits (part.while_loop _ e body) h = (reaches p f 0 e h.0, fits body h.1)
-    fits (part.do_loop _ body e) h = (fits body h.0, reaches p f 0 e h.1)
-    fits (part.for_loop _ start test step body) h = (optional_fits start h.0, (optional_fits test h.1.0, (optional_fits step h.1.1.0, fits body h.1.1.1)))
-    fits (Switch' _ e _ body) h = (reaches p f 0 e h.0, all_fit body h.1)
-    fits (Alt' _ _ body) h = all_fit body h
-    fits (AltCase c) h = talk_fits c h
-    fits (part.rescue _ _ body) h = fits body h
-    fits (Return _ (Some e)) h = (reaches p f 0 e h.0, h.1)
-    fits (Become _ call) h = call_fits call h
-    fits (Alloc _ places) h = each _ _ places (place_reaches p f 0) h
-    fits (Unalloc _ es) h = each _ _ es (reaches p f 0) h
-    fits (Check _ e) h = reaches p f 0 e h
-    fits (Proc _ calls) h = each _ _ calls call_fits h
-    fits (Task _ calls) h = each _ _ calls call_fits h
-    fits _ h = tt
+    unfolding IsStatement AreStatements IsOther
 
-    other_fits : (other : Held-TStmt-If-3) → IsFitOther p f other → OtherFits reaching (scope p f 0) other
-    other_fits stmt.None' h = tt
-    other_fits (stmt.Some' _ (more_of-TStmt other end_of-TStmt)) h = fits other h
+    fits : (n : Nest) (a : TStmt) → IsStatement here n a → IsFitStatement a → Fits reaching here a
+    fits n (Block' _ _ body) v h = all_fit (inside n) body v h
+    fits n (Declare _ is) v h = each (IsInitializer here) _ _ (λ (i : TInitializer) v g. (value_fits i.value v.0 g, tt)) is v h
+    fits n (Value _ ts e) v h = (each (AreBounds here) _ _ (λ (t : TBounds) v g. (value_fits t.from v.0 g.0, value_fits t.to v.1.1.0 g.1)) ts v.0 h.0, reaches p W number f there (length ts) e v.1 h.1)
+    fits n (part.label _ _ body) v h = fits (inside n) body v h
+    fits n (If' _ e _ (more_of-TStmt chosen end_of-TStmt) other) v h = (value_fits e v.0.0 h.0, (fits (inside n) chosen v.1.0 h.1.0, other_fits n other v.1.1 h.1.1))
+    fits n (part.while_loop _ e body) v h = (value_fits e v.0.0 h.0, fits (in_loop n) body v.1 h.1)
+    fits n (part.do_loop _ body e) v h = (fits (in_loop n) body v.0 h.0, value_fits e v.1.0 h.1)
+    fits n (part.for_loop _ start test step body) v h = (optional_fits start v.0 h.0, (condition_fits test v.1.0 h.1.0, (optional_fits step v.1.1.0 h.1.1.0, fits (in_loop n) body v.1.1.1 h.1.1.1)))
+    fits n (Switch' _ e _ body) v h = (value_fits e v.0 h.0, all_fit (in_cases (switch_labels v.1.0) n) body v.1.1.1.1 h.1)
+    fits n (Alt' _ _ body) v h = all_fit (in_cases alt_labels n) body v.1.1 h
+    fits n (AltCase c) v h = case_fits n.labels c v h
+    fits n (part.rescue _ _ body) v h = fits (inside n) body v h
+    fits n (Return _ (Some e)) v h = (value_fits e v.0 h.0, h.1)
+    fits n (Become _ call) v h = call_fits call v.0 h
+    fits n (Alloc _ places) v h = each (Allocates here) _ _ (λ place v. place_reaches p W number f there 0 place v.0) places v h
+    fits n (Unalloc _ es) v h = each (GivesBack here) _ _ (λ e v. value_fits e v.0) es v h
+    fits n (Check _ e) v h = value_fits e v.0 h
+    fits n (Proc _ calls) v h = each (IsCall here) _ _ call_fits calls v h
+    fits n (Task _ calls) v h = each (IsCall here) _ _ call_fits calls v h
+    fits n _ v h = tt
 
-    all_fit : {m : _} (body : Row_of-TStmt m) → AreFitStatements p f body → AllFit reaching (scope p f 0) body
-    all_fit end_of-TStmt h = tt
-    all_fit (more_of-TStmt a rest) h = (fits a h.0, all_fit rest h.1)
+    other_fits : (n : Nest) (other : Held-TStmt-If-3) → IsOther here n other → IsFitOther other → OtherFits reaching here other
+    other_fits n stmt.None' v h = tt
+    other_fits n (stmt.Some' _ (more_of-TStmt other end_of-TStmt)) v h = fits (inside n) other v h
 
-pub functions_fit : (p : Program) → IsFit p → FunctionsFit reaching p
-functions_fit p fit number f there = fits p f f.body (fit number f there)
+    all_fit : (n : Nest) {m : _} (body : Row_of-TStmt m) → AreStatements here n body → AreFitStatements body → AllFit reaching here body
+    all_fit n end_of-TStmt v h = tt
+    all_fit n (more_of-TStmt a rest) v h = (fits n a v.0 h.0, all_fit n rest v.1 h.1)
+
+pub functions_fit : (p : Program) → IsWellTyped p → IsFit p → FunctionsFit reaching p
+functions_fit p W fit number f there = fits p W number f there (record { number = number; breaks = 0; loops = 0; labels = no_labels }) f.body (W.functions number f there).body (fit number f there)
