@@ -1,6 +1,6 @@
 -- What lowering asks of the terms of a program beside the rules on types: that `.` follows aggregates, and that what is returned is a
--- value. The rules of the language say so. Those on typed programs leave it open: there a path of no members leads from any type
--- to itself, and a function without a result may return what a void call gives.
+-- value. Rules 32 and 47 of the language say so. `IsWellTyped` leaves it open: there a path of no members leads from any type to
+-- itself, and a function without a result may return what a void call gives.
 use Rattle.std.specs.Prelude.{◌≡◌, ⊤, ℕ, false, Option, Some, None, slice_get}
 use Rattle.std.specs.List.{AllByRecursion}
 use Rattle.al_typed.specs.declared.expression.TExpr.{TExpr, Tuple', Call', CallPointer', Print', Sequence', Held-TExpr-Call-2, None', Some', Row_of-TExpr, end_of-TExpr, more_of-TExpr, Row_of-TTarget, end_of-TTarget, more_of-TTarget, end_of-TReceiver, more_of-TReceiver}
@@ -35,18 +35,18 @@ abbrev mutual
   IsFitValue (form.load t place) = IsFitPlace place
   IsFitValue (form.decay t place) = IsFitPlace place
   IsFitValue (form.address t place) = IsFitPlace place
-  IsFitValue (form.unary t op of) = IsFitValue of
+  IsFitValue (form.unary t how of) = IsFitValue of
   IsFitValue (form.negation t of) = IsFitValue of
-  IsFitValue (form.binary t op kind left right) = IsFitValue left × IsFitValue right
-  IsFitValue (form.logical t op left right) = IsFitValue left × IsFitValue right
+  IsFitValue (form.binary t how k left right) = IsFitValue left × IsFitValue right
+  IsFitValue (form.logical t how left right) = IsFitValue left × IsFitValue right
   IsFitValue (form.movement t how pointer count) = IsFitValue pointer × IsFitValue count
   IsFitValue (form.difference t left right) = IsFitValue left × IsFitValue right
   IsFitValue (form.assign t target value) = IsFitTarget target × IsFitValue value
-  IsFitValue (form.update t place change value) = IsFitPlace place × IsFitValue value
-  IsFitValue (form.stepped t op place) = IsFitPlace place
+  IsFitValue (form.update t place how value) = IsFitPlace place × IsFitValue value
+  IsFitValue (form.stepped t how place) = IsFitPlace place
   IsFitValue (form.zerox t place) = IsFitPlace place
   IsFitValue (Tuple' t _ parts) = AreFitValues parts
-  IsFitValue (Call' t function receiver _ arguments) = IsFitObject receiver × AreFitValues arguments
+  IsFitValue (Call' t number receiver _ arguments) = IsFitObject receiver × AreFitValues arguments
   IsFitValue (CallPointer' t _ (more_of-TExpr pointer end_of-TExpr) _ arguments) = IsFitValue pointer × AreFitValues arguments
   IsFitValue (Print' t format _ arguments) = AreFitValues arguments
   IsFitValue (form.terminate t status) = IsFitValue status

@@ -1,3 +1,4 @@
 pub mod Addresses
 pub mod Fitting
 pub mod Example
+pub mod Runs

@@ -5,6 +5,7 @@ use Rattle.al_lowering.proofs.Addresses.{is_addressed, are_words}
 use Rattle.al_lowering.proofs.Statements.{functions_fit}
 use Rattle.al_lowering.proofs.Main.{main_known}
 use Rattle.al_lowering.proofs.Example.{well_typed, addresses_are_words, fit}
+use Rattle.al_lowering.proofs.Opening.{runs_same}
 use Rattle.al_lowering.proofs.laws.lowering_keeps_the_meaning.Goals as goal
 
 pub returns-clause-lowered : goal.returns-clause-lowered
@@ -19,8 +20,11 @@ returns-clause-sense c = λ p n start u answers typed words fit known private go
 pub returns-clause-main : goal.returns-clause-main
 returns-clause-main c = main_known
 
+pub returns-clause-runs : goal.returns-clause-runs
+returns-clause-runs c = λ p region h typed words fit bytes. runs_same p typed bytes (whole_lowered p typed (is_addressed p words) (functions_fit p typed fit)) region h
+
 pub returns-clause-met : goal.returns-clause-met
-returns-clause-met c = (well_typed, addresses_are_words, fit)
+returns-clause-met c = (well_typed, addresses_are_words, fit, tt)
 
 pub returns-clause-addressed : goal.returns-clause-addressed
 returns-clause-addressed c = are_words
