@@ -1,0 +1,4 @@
+mod Units
+mod Words
+mod Sensible
+mod Compiling
