@@ -1,0 +1,3 @@
+mod Trues
+mod Kept
+mod Whole

@@ -1,0 +1,4 @@
+pub mod Computed
+pub mod Members
+pub mod Pieces
+pub mod Stored

@@ -1,0 +1,17 @@
+//! Expressions, places, targets, objects and rows of expressions as operations.
+#![tactic(auto)]
+
+mod actions;
+mod calls;
+mod conversions;
+mod expr;
+mod forms;
+mod locals;
+mod objects;
+mod operators;
+mod pieces;
+mod printing;
+
+pub use actions::{initialize, target};
+pub use calls::{arguments, object};
+pub use expr::{effect, operand, place, pointer, row_values, unless, value};

@@ -1,0 +1,7 @@
+use Rattle.std.proofs.Common.{◌≡◌, ◌++◌, drop}
+use Rattle.al_lower_base.specs.Spots.{spot_of}
+use Rattle.al_lower_stmt.specs.Bodies.{bodies_from}
+use Rattle.al_lower_stmt.proofs.cases.body_places.Given as goal
+
+abbrev pub invariant-loop-a : goal.invariant-loop-a
+invariant-loop-a l = l.places ++ bodies_from (spot_of l.s) (drop l.a-index l.body) l.at ≡ bodies_from (spot_of l.s) l.body l.pc
