@@ -3,4 +3,4 @@ mod Statements
 mod Addresses
 mod Main
 mod Example
-mod Opening
+pub mod Opening

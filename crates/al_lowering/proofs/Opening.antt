@@ -62,14 +62,14 @@ module _ (p : Program) where
   globals_same [] = refl
   globals_same (g ∷ gs) = ap₂ (λ (x : List ℕ) (xs : List (List ℕ)). x ∷ xs) (global_same g) (globals_same gs)
 
-  blocks_same : StringsAreBytes p → operations.opening_blocks (lowered p) ≡ opening_blocks p
+  pub blocks_same : StringsAreBytes p → operations.opening_blocks (lowered p) ≡ opening_blocks p
   blocks_same h =
       map-append operations.global_bytes (map (shared_global p) (filter is_shared_global p.globals)) (map string_global p.strings)
       ∙ ap₂ (λ (a b : List (List ℕ)). a ++ b) (globals_same (filter is_shared_global p.globals)) (strings_same p.strings h)
 
   -- ---- the first task
 
-  behind_takes : (ls : List Local) (at m : ℕ) → behind_locals p at m m ls ≡ fold (λ a t. a + words_in p t) at (local_types (take m ls))
+  pub behind_takes : (ls : List Local) (at m : ℕ) → behind_locals p at m m ls ≡ fold (λ a t. a + words_in p t) at (local_types (take m ls))
   behind_takes [] at zero = refl
   behind_takes [] at (suc m) = refl
   behind_takes (l ∷ ls) at zero = refl
@@ -78,7 +78,7 @@ module _ (p : Program) where
   abbrev started : List ℕ → Start
   started words = record { code = p.main; words = words }
 
-  main_same : IsWellTyped p → operations.main_start (lowered p) ≡ main_start p
+  pub main_same : IsWellTyped p → operations.main_start (lowered p) ≡ main_start p
   main_same W =
       let f = W.main_function in
       let there = W.main.is_there.0 in

@@ -26,5 +26,6 @@ pub record HasCode (l : Layout) (ir : Ir) (image : Contents) : Type 0 where
 -- the image of a program, for some homes of its slots
 pub record IsGenerated (ir : Ir) (image : Contents) : Type 0 where
   pub homes : List (List Home)
+  pub count : length homes ≡ length ir.functions
   pub are_homes : (f : ℕ) → f < length ir.functions → AreHomes ir f (homes_of homes f)
   pub is_image : IsImageOf (homes_of homes) ir image

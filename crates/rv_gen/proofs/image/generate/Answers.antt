@@ -14,6 +14,7 @@ returns-in-Ok c =
     let same = same_layout ir far near plan c.in_ok-far.ensures.places c.in_ok-near.ensures.homes c.in_ok-near.ensures.places c.in_ok-plan.ensures.homes c.in_ok-plan.ensures.places in
     record {
       homes = far.homes;
+      count = c.in_ok-far.ensures.count;
       are_homes = λ f less. c.in_ok-far.ensures.homes f (subst (λ n. f < n) (sym c.in_ok-far.ensures.count) less);
       is_image = subst (λ (image : Contents). IsImageOf (homes_of far.homes) ir image) (sym c.in-Ok.ensures.image) (image_of ir (homes_of far.homes) (layout_in ir plan) same c.in_ok-contents.contents c.in_ok-contents.ensures);
     }

@@ -1,0 +1,5 @@
+mod NoPlace
+mod Opened
+mod Homes
+mod Classes
+mod Made
