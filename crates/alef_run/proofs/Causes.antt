@@ -2,14 +2,12 @@
 use Rattle.std.proofs.Common.{◌≡◌, ℕ, ◌<◌, ◌≤◌, List, length, Bool, true, false, cond, Option, Some, None, Err, refl, sym, ap, ◌∙◌, subst, arith, inl, inr}
 use Rattle.std.specs.Prelude.{◌⊎◌, IsSome}
 use Rattle.al_base.specs.declared.over.Over.{Over}
-use Rattle.al_base.specs.declared.over.Over.TheVariants.{Done}
 use Rattle.al_host.specs.Outside.{Faulted}
-use Rattle.al_first.specs.declared.form.Form.{Form}
-use Rattle.al_first.specs.Form.{IsForm}
 use Rattle.al_words.specs.declared.job.Mode.{Mode}
 use Rattle.al_words.specs.declared.job.Mode.TheVariants.{Run, Replay, Recorded, Build, Exec, Check, Sample, Race, Step, Link}
 use Rattle.al_words.specs.declared.job.Job.{Job}
 use Rattle.rv_isa.specs.declared.image.Contents.{Contents}
+use Rattle.rv_meant.specs.Meant.{IsCompilable}
 use Rattle.rv_image.specs.declared.fault.ImageFault.{ImageFault}
 use Rattle.rv_image.specs.Spelling.{IsImage}
 use Rattle.rv_image.specs.Reading.{reading}
@@ -23,17 +21,21 @@ use Rattle.al_show.specs.Walks.{IsRefused as IsEntryRefused}
 use Rattle.al_front.specs.Accepted.{IsAccepted, IsRefused}
 use Rattle.al_front.specs.declared.refused.Refused.{Refused as Reason}
 use Rattle.alef_run.specs.Call.{Call, LacksText, text_in}
-use Rattle.alef_run.specs.RunMode.{EndsRun, HasNoForm}
+use Rattle.alef_run.specs.BuildMode.{EndsBuild}
+use Rattle.alef_run.specs.RunMode.{EndsRun}
 use Rattle.alef_run.specs.ExecMode.{EndsExec, RanImage}
 use Rattle.alef_run.specs.CheckMode.{HasProgram, EndsCheck}
 use Rattle.alef_run.specs.Load.{IsBadSchedule}
+use Rattle.alef_run.specs.Meant.{EndsAsMeant}
 use Rattle.alef_run.specs.StepMode.{EndsStep, bytes_of_region, first_of}
 use Rattle.alef_run.specs.declared.report.ScheduleFault.{ScheduleFault}
 use Rattle.alef_run.specs.Modes.{EndsIdle, EndsIn, EndsBy, is_built, built}
 use Rattle.alef_run.specs.declared.report.End.{End}
 use Rattle.alef_run.specs.declared.report.End.TheVariants.{Ran, Made, Words, ReadFault, Refused, BadImage, BadSchedule, BadEntry, BadNumber, WriteFault, NoMemory}
-use Rattle.alef_run.specs.declared.report.Refused.TheVariants.{Form as Other, Text}
+use Rattle.alef_run.proofs.Builds.{missing_build, host_build, out_build, refused_build, complete_build}
 use Rattle.alef_run.proofs.Checks.{missing_check, host_check, out_check, complete_check, refused_check}
+use Rattle.alef_run.proofs.Meanings.{run_as_meant}
+use Rattle.alef_run.proofs.Runs.{missing_run, host_run, out_run, refused_run, complete_run}
 use Rattle.alef_run.proofs.Steps.{missing_step, host_step, out_step, refused_step, missing_schedule_step, bad_schedule_step, bad_number_step, bad_entry_step, complete_step}
 use Rattle.alef_run.proofs.Told.{neither, not_missing}
 
@@ -58,27 +60,30 @@ job_built (Some j) job e = on (is_built j.mode) refl e
 
 module _ (call : Call) where
   -- what follows from each way to end follows from the end
-  by_mode : (A : Type 0) (end : End) (mode : Mode) (job : Job) → (EndsIdle call end → A) → (EndsRun job.file call end → A) → (EndsExec job call end → A) → (EndsCheck job.file call end → A) → (EndsStep job call end → A) → EndsIn mode job call end → A
-  by_mode A end Run job idle run exec check step e = run e
-  by_mode A end Exec job idle run exec check step e = exec e
-  by_mode A end Check job idle run exec check step e = check e
-  by_mode A end Replay job idle run exec check step e = idle e
-  by_mode A end Recorded job idle run exec check step e = idle e
-  by_mode A end Build job idle run exec check step e = idle e
-  by_mode A end Sample job idle run exec check step e = idle e
-  by_mode A end Race job idle run exec check step e = idle e
-  by_mode A end Step job idle run exec check step e = step e
-  by_mode A end Link job idle run exec check step e = idle e
+  by_mode : (A : Type 0) (end : End) (mode : Mode) (job : Job) → (EndsIdle call end → A) → (EndsRun job call end → A) → (EndsBuild job.file call end → A) → (EndsExec job call end → A) → (EndsCheck job.file call end → A) → (EndsStep job call end → A) → EndsIn mode job call end → A
+  by_mode A end Run job idle run build exec check step e = run e
+  by_mode A end Exec job idle run build exec check step e = exec e
+  by_mode A end Check job idle run build exec check step e = check e
+  by_mode A end Replay job idle run build exec check step e = idle e
+  by_mode A end Recorded job idle run build exec check step e = idle e
+  by_mode A end Build job idle run build exec check step e = build e
+  by_mode A end Sample job idle run build exec check step e = idle e
+  by_mode A end Race job idle run build exec check step e = idle e
+  by_mode A end Step job idle run build exec check step e = step e
+  by_mode A end Link job idle run build exec check step e = idle e
 
-  by_job : (A : Type 0) (end : End) (o : Option Job) → (EndsIdle call end → A) → ((job : Job) → EndsRun job.file call end → A) → ((job : Job) → EndsExec job call end → A) → ((job : Job) → EndsCheck job.file call end → A) → ((job : Job) → EndsStep job call end → A) → EndsBy o call end → A
-  by_job A end None idle run exec check step e = idle e
-  by_job A end (Some job) idle run exec check step e = by_mode A end job.mode job idle (run job) (exec job) (check job) (step job) e
+  by_job : (A : Type 0) (end : End) (o : Option Job) → (EndsIdle call end → A) → ((job : Job) → EndsRun job call end → A) → ((job : Job) → EndsBuild job.file call end → A) → ((job : Job) → EndsExec job call end → A) → ((job : Job) → EndsCheck job.file call end → A) → ((job : Job) → EndsStep job call end → A) → EndsBy o call end → A
+  by_job A end None idle run build exec check step e = idle e
+  by_job A end (Some job) idle run build exec check step e = by_mode A end job.mode job idle (run job) (build job) (exec job) (check job) (step job) e
 
   ends_in : (end : End) (o : Option Job) (job : Job) → EndsBy o call end → built o ≡ Some job → EndsIn job.mode job call end
   ends_in end o job e is = let P : Option Job → Type 0 = λ o. EndsBy o call end in subst P (job_was o job is) e
 
-  pub ends_run : (end : End) (o : Option Job) (job : Job) → EndsBy o call end → built o ≡ Some job → job.mode ≡ Run → EndsRun job.file call end
+  pub ends_run : (end : End) (o : Option Job) (job : Job) → EndsBy o call end → built o ≡ Some job → job.mode ≡ Run → EndsRun job call end
   ends_run end o job e is mode = let P : Mode → Type 0 = λ mode. EndsIn mode job call end in subst P mode (ends_in end o job e is)
+
+  pub ends_build : (end : End) (o : Option Job) (job : Job) → EndsBy o call end → built o ≡ Some job → job.mode ≡ Build → EndsBuild job.file call end
+  ends_build end o job e is mode = let P : Mode → Type 0 = λ mode. EndsIn mode job call end in subst P mode (ends_in end o job e is)
 
   pub ends_exec : (end : End) (o : Option Job) (job : Job) → EndsBy o call end → built o ≡ Some job → job.mode ≡ Exec → EndsExec job call end
   ends_exec end o job e is mode = let P : Mode → Type 0 = λ mode. EndsIn mode job call end in subst P mode (ends_in end o job e is)
@@ -92,12 +97,12 @@ module _ (call : Call) where
   -- ---- words
 
   words_in : (end : End) (mode : Mode) (job : Job) → EndsIn mode job call end → end ≡ Words → is_built mode ≡ false
-  words_in end Run job e is = absurd (let P : End → Type 0 = EndsRun job.file call in subst P is e)
+  words_in end Run job e is = absurd (let P : End → Type 0 = EndsRun job call in subst P is e)
   words_in end Exec job e is = absurd (let P : End → Type 0 = EndsExec job call in subst P is e)
   words_in end Check job e is = absurd (let P : End → Type 0 = EndsCheck job.file call in subst P is e)
   words_in end Replay job e is = refl
   words_in end Recorded job e is = refl
-  words_in end Build job e is = refl
+  words_in end Build job e is = absurd (let P : End → Type 0 = EndsBuild job.file call in subst P is e)
   words_in end Sample job e is = refl
   words_in end Race job e is = refl
   words_in end Step job e is = absurd (let P : End → Type 0 = EndsStep job call in subst P is e)
@@ -113,7 +118,7 @@ module _ (call : Call) where
   idle_in end Check job e is = absurd (cc)
   idle_in end Replay job e is = e.0
   idle_in end Recorded job e is = e.0
-  idle_in end Build job e is = e.0
+  idle_in end Build job e is = absurd (cc)
   idle_in end Sample job e is = e.0
   idle_in end Race job e is = e.0
   idle_in end Step job e is = absurd (cc)
@@ -124,20 +129,6 @@ module _ (call : Call) where
   words_end end (Some job) e is = idle_in end job.mode job e is
 
   -- ---- faults outside
-
-  missing_run : (file : List ℕ) (end : End) → EndsRun file call end → LacksText call.told file → (end ≡ ReadFault) ⊎ (end ≡ NoMemory)
-  missing_run file (Ran over) e m = absurd (e.2.1.read.found m)
-  missing_run file WriteFault e m = absurd (e.1.1.read.found m)
-  missing_run file ReadFault e m = inl refl
-  missing_run file (Refused Other) e m = absurd (e.0.found m)
-  missing_run file (Refused (Text reason)) e m = absurd e
-  missing_run file NoMemory e m = inr refl
-  missing_run file Made e m = absurd e
-  missing_run file Words e m = absurd e
-  missing_run file (BadSchedule bad) e m = absurd e
-  missing_run file (BadEntry number) e m = absurd e
-  missing_run file (BadNumber count) e m = absurd e
-  missing_run file (BadImage fault) e m = absurd e
 
   missing_exec : (job : Job) (end : End) → EndsExec job call end → LacksText call.told job.file → (end ≡ ReadFault) ⊎ (end ≡ NoMemory)
   missing_exec job (Ran over) e m = absurd (e.1.read.found m)
@@ -153,12 +144,12 @@ module _ (call : Call) where
   missing_exec job (Refused reason) e m = absurd e
 
   missing_in : (end : End) (mode : Mode) (job : Job) → is_built mode ≡ true → EndsIn mode job call end → LacksText call.told job.file → (end ≡ ReadFault) ⊎ (end ≡ NoMemory)
-  missing_in end Run job is e m = missing_run job.file end e m
+  missing_in end Run job is e m = missing_run job call end e m
   missing_in end Exec job is e m = missing_exec job end e m
   missing_in end Check job is e m = missing_check job.file call end e m
   missing_in end Replay job is e m = absurd (cc)
   missing_in end Recorded job is e m = absurd (cc)
-  missing_in end Build job is e m = absurd (cc)
+  missing_in end Build job is e m = missing_build job.file call end e m
   missing_in end Sample job is e m = absurd (cc)
   missing_in end Race job is e m = absurd (cc)
   missing_in end Step job is e m = missing_step job call end e m
@@ -166,20 +157,6 @@ module _ (call : Call) where
 
   pub missing_end : (end : End) (o : Option Job) (job : Job) → EndsBy o call end → built o ≡ Some job → LacksText call.told job.file → (end ≡ ReadFault) ⊎ (end ≡ NoMemory)
   missing_end end o job e is m = missing_in end job.mode job (job_built o job is) (ends_in end o job e is) m
-
-  host_run : (file : List ℕ) (end : End) → EndsRun file call end → call.host_before < call.host_after → end ≡ ReadFault
-  host_run file (Ran over) e rose = let calm = e.2.1.read.calm in absurd (omega (arith, calm, rose))
-  host_run file WriteFault e rose = let calm = e.1.1.read.calm in absurd (omega (arith, calm, rose))
-  host_run file ReadFault e rose = refl
-  host_run file (Refused Other) e rose = let calm = e.0.calm in absurd (omega (arith, calm, rose))
-  host_run file (Refused (Text reason)) e rose = absurd e
-  host_run file NoMemory e rose = absurd (neither e.0 (λ u. let calm = u.calm in omega (arith, calm, rose)) (λ r. let calm = r.calm in omega (arith, calm, rose)))
-  host_run file Made e rose = absurd e
-  host_run file Words e rose = absurd e
-  host_run file (BadSchedule bad) e rose = absurd e
-  host_run file (BadEntry number) e rose = absurd e
-  host_run file (BadNumber count) e rose = absurd e
-  host_run file (BadImage fault) e rose = absurd e
 
   host_exec : (job : Job) (end : End) → EndsExec job call end → call.host_before < call.host_after → end ≡ ReadFault
   host_exec job (Ran over) e rose = let calm = e.1.read.calm in absurd (omega (arith, calm, rose))
@@ -196,29 +173,15 @@ module _ (call : Call) where
 
   pub host_end : (end : End) (o : Option Job) → EndsBy o call end → call.host_before < call.host_after → end ≡ ReadFault
   host_end end o e rose =
-      by_job (end ≡ ReadFault) end o (λ i. let calm = i.1.calm in absurd (omega (arith, calm, rose))) (λ job r. host_run job.file end r rose) (λ job x. host_exec job end x rose)
+      by_job (end ≡ ReadFault) end o (λ i. let calm = i.1.calm in absurd (omega (arith, calm, rose))) (λ job r. host_run job call end r rose) (λ job b. host_build job.file call end b rose) (λ job x. host_exec job end x rose)
       (λ job k. host_check job.file call end k rose) (λ job s. host_step job call end s rose) e
 
-  out_run : (file : List ℕ) (end : End) → EndsRun file call end → call.out_before < call.out_after → end ≡ WriteFault
-  out_run file (Ran over) e rose = let calm = e.1 in absurd (omega (arith, calm, rose))
-  out_run file WriteFault e rose = refl
-  out_run file ReadFault e rose = let calm = e.1.calm in absurd (omega (arith, calm, rose))
-  out_run file (Refused Other) e rose = let calm = e.2.calm in absurd (omega (arith, calm, rose))
-  out_run file (Refused (Text reason)) e rose = absurd e
-  out_run file NoMemory e rose = let calm = e.1.calm in absurd (omega (arith, calm, rose))
-  out_run file Made e rose = absurd e
-  out_run file Words e rose = absurd e
-  out_run file (BadSchedule bad) e rose = absurd e
-  out_run file (BadEntry number) e rose = absurd e
-  out_run file (BadNumber count) e rose = absurd e
-  out_run file (BadImage fault) e rose = absurd e
-
   out_exec : (job : Job) (end : End) → EndsExec job call end → call.out_before < call.out_after → end ≡ WriteFault
-  out_exec job (Ran over) e rose = let calm = e.1.ran.2 in absurd (omega (arith, calm, rose))
+  out_exec job (Ran over) e rose = let calm = e.1.run.ran.2 in absurd (omega (arith, calm, rose))
   out_exec job WriteFault e rose = refl
   out_exec job ReadFault e rose = let calm = e.1.calm in absurd (omega (arith, calm, rose))
   out_exec job (BadImage fault) e rose = let calm = e.2.calm in absurd (omega (arith, calm, rose))
-  out_exec job NoMemory e rose = absurd (neither e.1 (λ n. let calm = n.calm in omega (arith, calm, rose)) (λ r. let calm = r.1.ran.1 in omega (arith, calm, rose)))
+  out_exec job NoMemory e rose = absurd (neither e.1 (λ n. let calm = n.calm in omega (arith, calm, rose)) (λ r. let calm = r.1.run.ran.1 in omega (arith, calm, rose)))
   out_exec job Made e rose = absurd e
   out_exec job Words e rose = absurd e
   out_exec job (BadSchedule bad) e rose = absurd e
@@ -228,40 +191,10 @@ module _ (call : Call) where
 
   pub out_end : (end : End) (o : Option Job) → EndsBy o call end → call.out_before < call.out_after → end ≡ WriteFault
   out_end end o e rose =
-      by_job (end ≡ WriteFault) end o (λ i. let calm = i.2.calm in absurd (omega (arith, calm, rose))) (λ job r. out_run job.file end r rose) (λ job x. out_exec job end x rose)
+      by_job (end ≡ WriteFault) end o (λ i. let calm = i.2.calm in absurd (omega (arith, calm, rose))) (λ job r. out_run job call end r rose) (λ job b. out_build job.file call end b rose) (λ job x. out_exec job end x rose)
       (λ job k. out_check job.file call end k rose) (λ job s. out_step job call end s rose) e
 
   -- ---- texts and images
-
-  module _ (file text : List ℕ) (is : text_in call.told file ≡ Some text) where
-    refused_run : (end : End) → EndsRun file call end → HasNoForm text → (end ≡ Refused Other) ⊎ ((end ≡ ReadFault) ⊎ (end ≡ NoMemory))
-    refused_run (Ran over) e none_has = absurd (none_has e.2.0 (e.2.1.text text is))
-    refused_run WriteFault e none_has = absurd (none_has e.1.0 (e.1.1.text text is))
-    refused_run ReadFault e none_has = inr (inl refl)
-    refused_run (Refused Other) e none_has = inl refl
-    refused_run NoMemory e none_has = inr (inr refl)
-    refused_run Made e none_has = absurd e
-    refused_run (Refused (Text reason)) e none_has = absurd e
-    refused_run Words e none_has = absurd e
-    refused_run (BadSchedule bad) e none_has = absurd e
-    refused_run (BadEntry number) e none_has = absurd e
-    refused_run (BadNumber count) e none_has = absurd e
-    refused_run (BadImage fault) e none_has = absurd e
-
-    complete_run : (form : Form) (end : End) → EndsRun file call end → IsForm text form → (Faulted call.host_before call.host_after → ⊥) → (Faulted call.out_before call.out_after → ⊥)
-        → (end ≡ Ran Done) ⊎ (end ≡ NoMemory)
-    complete_run form (Ran over) e f calm calm' = inl (ap Ran e.0)
-    complete_run form WriteFault e f calm calm' = absurd (calm' e.0)
-    complete_run form ReadFault e f calm calm' = absurd (neither e.0 calm (λ m. not_missing call.told text file is m))
-    complete_run form (Refused Other) e f calm calm' = absurd (e.1 text is form f)
-    complete_run form (Refused (Text reason)) e f calm calm' = absurd e
-    complete_run form NoMemory e f calm calm' = inr refl
-    complete_run form Made e f calm calm' = absurd e
-    complete_run form Words e f calm calm' = absurd e
-    complete_run form (BadSchedule bad) e f calm calm' = absurd e
-    complete_run form (BadEntry number) e f calm calm' = absurd e
-    complete_run form (BadNumber count) e f calm calm' = absurd e
-    complete_run form (BadImage fault) e f calm calm' = absurd e
 
   module _ (job : Job) (text : List ℕ) (is : text_in call.told job.file ≡ Some text) where
     no_image : (end : End) (fault : ImageFault) → RanImage job call end → reading text ≡ Err fault → ⊥
@@ -283,7 +216,7 @@ module _ (call : Call) where
     complete_exec : (image : Contents) (end : End) → EndsExec job call end → IsImage text image → (Faulted call.host_before call.host_after → ⊥) → (Faulted call.out_before call.out_after → ⊥)
         → ((over : Over) × (end ≡ Ran over)) ⊎ (end ≡ NoMemory)
     complete_exec image (Ran over) e f calm calm' = inl (over, refl)
-    complete_exec image WriteFault e f calm calm' = absurd (calm' e.1.ran.2)
+    complete_exec image WriteFault e f calm calm' = absurd (calm' e.1.run.ran.2)
     complete_exec image ReadFault e f calm calm' = absurd (neither e.0 calm (λ m. not_missing call.told text job.file is m))
     complete_exec image (BadImage fault) e f calm calm' = absurd (let s = e.1 text is in let again = image_again text image f in cc)
     complete_exec image NoMemory e f calm calm' = inr refl
@@ -294,13 +227,25 @@ module _ (call : Call) where
     complete_exec image (BadNumber count) e f calm calm' = absurd e
     complete_exec image (Refused reason) e f calm calm' = absurd e
 
-  pub refused_end : (end : End) (o : Option Job) (job : Job) (text : List ℕ) → EndsBy o call end → built o ≡ Some job → job.mode ≡ Run → text_in call.told job.file ≡ Some text → HasNoForm text
-      → (end ≡ Refused Other) ⊎ ((end ≡ ReadFault) ⊎ (end ≡ NoMemory))
-  refused_end end o job text e b mode is none_has = refused_run job.file text is end (ends_run end o job e b mode) none_has
+  pub refused_end : (end : End) (o : Option Job) (job : Job) (text : List ℕ) → EndsBy o call end → built o ≡ Some job → job.mode ≡ Run → text_in call.told job.file ≡ Some text → (HasProgram text → ⊥)
+      → ((r : Reason) × (end ≡ Refused r) × IsRefused text r) ⊎ ((end ≡ ReadFault) ⊎ (end ≡ NoMemory))
+  refused_end end o job text e b mode is none_has = refused_run job call text is none_has end (ends_run end o job e b mode)
 
-  pub complete_end : (end : End) (o : Option Job) (job : Job) (text : List ℕ) (form : Form) → EndsBy o call end → built o ≡ Some job → job.mode ≡ Run → text_in call.told job.file ≡ Some text → IsForm text form
-      → (Faulted call.host_before call.host_after → ⊥) → (Faulted call.out_before call.out_after → ⊥) → (end ≡ Ran Done) ⊎ (end ≡ NoMemory)
-  complete_end end o job text form e b mode is f calm calm' = complete_run job.file text is form end (ends_run end o job e b mode) f calm calm'
+  pub complete_end : (end : End) (o : Option Job) (job : Job) (text : List ℕ) → EndsBy o call end → built o ≡ Some job → job.mode ≡ Run → text_in call.told job.file ≡ Some text → HasProgram text
+      → (Faulted call.host_before call.host_after → ⊥) → (Faulted call.out_before call.out_after → ⊥) → ((over : Over) × (end ≡ Ran over)) ⊎ (end ≡ NoMemory)
+  complete_end end o job text e b mode is has calm calm' = complete_run job call text is has calm calm' end (ends_run end o job e b mode)
+
+  pub meant_end : (end : End) (o : Option Job) (job : Job) (text : List ℕ) (p : Program) → job.region ≤ 256 → EndsBy o call end → built o ≡ Some job → job.mode ≡ Run → text_in call.told job.file ≡ Some text
+      → IsAccepted text p → IsWithin p → IsCompilable p → EndsAsMeant p job call end
+  meant_end end o job text p few e b mode is accepted within compilable = run_as_meant job call few text is p accepted within compilable end (ends_run end o job e b mode)
+
+  pub unbuilt_end : (end : End) (o : Option Job) (job : Job) (text : List ℕ) → EndsBy o call end → built o ≡ Some job → job.mode ≡ Build → text_in call.told job.file ≡ Some text → (HasProgram text → ⊥)
+      → ((r : Reason) × (end ≡ Refused r) × IsRefused text r) ⊎ ((end ≡ ReadFault) ⊎ (end ≡ NoMemory))
+  unbuilt_end end o job text e b mode is none_has = refused_build job.file call text is none_has end (ends_build end o job e b mode)
+
+  pub built_end : (end : End) (o : Option Job) (job : Job) (text : List ℕ) → EndsBy o call end → built o ≡ Some job → job.mode ≡ Build → text_in call.told job.file ≡ Some text → HasProgram text
+      → (Faulted call.host_before call.host_after → ⊥) → (Faulted call.out_before call.out_after → ⊥) → (end ≡ Made) ⊎ (end ≡ NoMemory)
+  built_end end o job text e b mode is has calm calm' = complete_build job.file call text is has calm calm' end (ends_build end o job e b mode)
 
   pub no_image_end : (end : End) (o : Option Job) (job : Job) (text : List ℕ) (fault : ImageFault) → EndsBy o call end → built o ≡ Some job → job.mode ≡ Exec → text_in call.told job.file ≡ Some text → reading text ≡ Err fault
       → (end ≡ BadImage fault) ⊎ ((end ≡ ReadFault) ⊎ (end ≡ NoMemory))
@@ -315,7 +260,7 @@ module _ (call : Call) where
   text_end end o job text e b mode is has calm = complete_check job.file call text is end (ends_check end o job e b mode) has calm
 
   pub no_text_end : (end : End) (o : Option Job) (job : Job) (text : List ℕ) → EndsBy o call end → built o ≡ Some job → job.mode ≡ Check → text_in call.told job.file ≡ Some text → (HasProgram text → ⊥)
-      → ((r : Reason) × (end ≡ Refused (Text r)) × IsRefused text r) ⊎ ((end ≡ ReadFault) ⊎ (end ≡ NoMemory))
+      → ((r : Reason) × (end ≡ Refused r) × IsRefused text r) ⊎ ((end ≡ ReadFault) ⊎ (end ≡ NoMemory))
   no_text_end end o job text e b mode is none_has = refused_check job.file call text is end (ends_check end o job e b mode) none_has
 
   -- ---- ways to end
@@ -330,7 +275,7 @@ module _ (call : Call) where
       on Check is = absurd (cc)
       on Replay is = i
       on Recorded is = i
-      on Build is = i
+      on Build is = absurd (cc)
       on Sample is = i
       on Race is = i
       on Step is = absurd (cc)
@@ -342,12 +287,12 @@ module _ (call : Call) where
   memory_end (Some job) i = on job.mode
     where
       on : (mode : Mode) → EndsIn mode job call NoMemory
-      on Run = (inl i.1, i.2)
+      on Run = (i.1.calm, inl i.2)
       on Exec = (i.1.calm, inl i.2)
       on Check = (i.1.calm, i.2)
       on Replay = i
       on Recorded = i
-      on Build = i
+      on Build = (i.1.calm, i.2)
       on Sample = i
       on Race = i
       on Step = (i.1.calm, i.2)
@@ -357,21 +302,24 @@ module _ (call : Call) where
   mode_end end o job is e = let P : Option Job → Type 0 = λ o. EndsBy o call end in subst P (sym is) e
 
   -- the modes that are yet to come
-  pub rest_in : (end : End) (mode : Mode) (job : Job) → (mode ≡ Run → ⊥) → (mode ≡ Exec → ⊥) → (mode ≡ Check → ⊥) → (mode ≡ Step → ⊥) → EndsIdle call end → EndsIn mode job call end
-  rest_in end Run job a b c d i = absurd (a refl)
-  rest_in end Exec job a b c d i = absurd (b refl)
-  rest_in end Check job a b c d i = absurd (c refl)
-  rest_in end Replay job a b c d i = i
-  rest_in end Recorded job a b c d i = i
-  rest_in end Build job a b c d i = i
-  rest_in end Sample job a b c d i = i
-  rest_in end Race job a b c d i = i
-  rest_in end Step job a b c d i = absurd (d refl)
-  rest_in end Link job a b c d i = i
+  pub rest_in : (end : End) (mode : Mode) (job : Job) → (mode ≡ Run → ⊥) → (mode ≡ Build → ⊥) → (mode ≡ Exec → ⊥) → (mode ≡ Check → ⊥) → (mode ≡ Step → ⊥) → EndsIdle call end → EndsIn mode job call end
+  rest_in end Run job a b c d e i = absurd (a refl)
+  rest_in end Build job a b c d e i = absurd (b refl)
+  rest_in end Exec job a b c d e i = absurd (c refl)
+  rest_in end Check job a b c d e i = absurd (d refl)
+  rest_in end Replay job a b c d e i = i
+  rest_in end Recorded job a b c d e i = i
+  rest_in end Sample job a b c d e i = i
+  rest_in end Race job a b c d e i = i
+  rest_in end Step job a b c d e i = absurd (e refl)
+  rest_in end Link job a b c d e i = i
 
-  pub run_end : (end : End) (o : Option Job) (job : Job) (file : List ℕ) → o ≡ Some job → job.mode ≡ Run → file ≡ job.file → EndsRun file call end → EndsBy o call end
-  run_end end o job file is mode named e =
-      let F : List ℕ → Type 0 = λ file. EndsRun file call end in
+  pub run_end : (end : End) (o : Option Job) (job : Job) → o ≡ Some job → job.mode ≡ Run → EndsRun job call end → EndsBy o call end
+  run_end end o job is mode e = let M : Mode → Type 0 = λ mode. EndsIn mode job call end in mode_end end o job is (subst M (sym mode) e)
+
+  pub build_end : (end : End) (o : Option Job) (job : Job) (file : List ℕ) → o ≡ Some job → job.mode ≡ Build → file ≡ job.file → EndsBuild file call end → EndsBy o call end
+  build_end end o job file is mode named e =
+      let F : List ℕ → Type 0 = λ file. EndsBuild file call end in
       let M : Mode → Type 0 = λ mode. EndsIn mode job call end in
       mode_end end o job is (subst M (sym mode) (subst F named e))
 
@@ -384,7 +332,7 @@ module _ (call : Call) where
   -- ---- stepping
 
   pub step_refused_end : (end : End) (o : Option Job) (job : Job) (text : List ℕ) → EndsBy o call end → built o ≡ Some job → job.mode ≡ Step → text_in call.told job.file ≡ Some text → (HasProgram text → ⊥)
-      → ((r : Reason) × (end ≡ Refused (Text r)) × IsRefused text r) ⊎ ((end ≡ ReadFault) ⊎ (end ≡ NoMemory))
+      → ((r : Reason) × (end ≡ Refused r) × IsRefused text r) ⊎ ((end ≡ ReadFault) ⊎ (end ≡ NoMemory))
   step_refused_end end o job text e b mode is none_has = refused_step job call text is none_has end (ends_step end o job e b mode)
 
   pub missing_schedule_end : (end : End) (o : Option Job) (job : Job) (text : List ℕ) → EndsBy o call end → built o ≡ Some job → job.mode ≡ Step → text_in call.told job.file ≡ Some text → HasProgram text

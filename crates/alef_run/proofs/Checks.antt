@@ -16,7 +16,6 @@ use Rattle.alef_run.specs.Load.{LacksBytes}
 use Rattle.alef_run.specs.CheckMode.{most_of_text, HasProgram, end_of, EndsText, EndsCheck}
 use Rattle.alef_run.specs.declared.report.End.{End}
 use Rattle.alef_run.specs.declared.report.End.TheVariants.{Ran, Made, Words, ReadFault, Refused, BadImage, BadSchedule, BadEntry, BadNumber, WriteFault, NoMemory}
-use Rattle.alef_run.specs.declared.report.Refused.TheVariants.{Form, Text}
 use Rattle.alef_run.proofs.Told.{neither, not_missing}
 
 -- ---- a text as far as it was read
@@ -61,8 +60,7 @@ module _ (file : List ℕ) (call : Call) (nothing : DidNothing call) where
   module _ (read : WasRead file most_of_text call) (front : List ℕ) (f : (text : List ℕ) → text_in call.told file ≡ Some text → front ≡ take (2 ^ 20 + 1) text) where
     so_ended : (end : End) → EndsText front end → EndsCheck file call end
     so_ended Made is = (read, (λ text named. program_whole text front (f text named) is), nothing)
-    so_ended (Refused (Text r)) is = (read, (λ text named. refused_whole text front (f text named) r is), nothing)
-    so_ended (Refused Form) is = absurd is
+    so_ended (Refused r) is = (read, (λ text named. refused_whole text front (f text named) r is), nothing)
     so_ended NoMemory is = (read.calm, nothing)
     so_ended (Ran over) is = absurd is
     so_ended Words is = absurd is
@@ -81,10 +79,9 @@ module _ (file : List ℕ) (call : Call) (nothing : DidNothing call) where
 module _ (file : List ℕ) (call : Call) where
   pub missing_check : (end : End) → EndsCheck file call end → LacksText call.told file → (end ≡ ReadFault) ⊎ (end ≡ NoMemory)
   missing_check Made e m = absurd (e.0.found m)
-  missing_check (Refused (Text r)) e m = absurd (e.0.found m)
+  missing_check (Refused r) e m = absurd (e.0.found m)
   missing_check ReadFault e m = inl refl
   missing_check NoMemory e m = inr refl
-  missing_check (Refused Form) e m = absurd e
   missing_check (Ran over) e m = absurd e
   missing_check Words e m = absurd e
   missing_check (BadSchedule bad) e m = absurd e
@@ -95,10 +92,9 @@ module _ (file : List ℕ) (call : Call) where
 
   pub host_check : (end : End) → EndsCheck file call end → call.host_before < call.host_after → end ≡ ReadFault
   host_check Made e rose = let calm = e.0.calm in absurd (omega (arith, calm, rose))
-  host_check (Refused (Text r)) e rose = let calm = e.0.calm in absurd (omega (arith, calm, rose))
+  host_check (Refused r) e rose = let calm = e.0.calm in absurd (omega (arith, calm, rose))
   host_check ReadFault e rose = refl
   host_check NoMemory e rose = let calm = e.0 in absurd (omega (arith, calm, rose))
-  host_check (Refused Form) e rose = absurd e
   host_check (Ran over) e rose = absurd e
   host_check Words e rose = absurd e
   host_check (BadSchedule bad) e rose = absurd e
@@ -109,10 +105,9 @@ module _ (file : List ℕ) (call : Call) where
 
   pub out_check : (end : End) → EndsCheck file call end → call.out_before < call.out_after → end ≡ WriteFault
   out_check Made e rose = let calm = e.2.calm in absurd (omega (arith, calm, rose))
-  out_check (Refused (Text r)) e rose = let calm = e.2.calm in absurd (omega (arith, calm, rose))
+  out_check (Refused r) e rose = let calm = e.2.calm in absurd (omega (arith, calm, rose))
   out_check ReadFault e rose = let calm = e.1.calm in absurd (omega (arith, calm, rose))
   out_check NoMemory e rose = let calm = e.1.calm in absurd (omega (arith, calm, rose))
-  out_check (Refused Form) e rose = absurd e
   out_check (Ran over) e rose = absurd e
   out_check Words e rose = absurd e
   out_check (BadSchedule bad) e rose = absurd e
@@ -124,10 +119,9 @@ module _ (file : List ℕ) (call : Call) where
   module _ (text : List ℕ) (is : text_in call.told file ≡ Some text) where
     pub complete_check : (end : End) → EndsCheck file call end → HasProgram text → (Faulted call.host_before call.host_after → ⊥) → (end ≡ Made) ⊎ (end ≡ NoMemory)
     complete_check Made e has calm = inl refl
-    complete_check (Refused (Text r)) e has calm = absurd (never_both text has.0 r has.1 has.2 (e.1 text is))
+    complete_check (Refused r) e has calm = absurd (never_both text has.0 r has.1 has.2 (e.1 text is))
     complete_check ReadFault e has calm = absurd (neither e.0 calm (λ m. not_missing call.told text file is m))
     complete_check NoMemory e has calm = inr refl
-    complete_check (Refused Form) e has calm = absurd e
     complete_check (Ran over) e has calm = absurd e
     complete_check Words e has calm = absurd e
     complete_check (BadSchedule bad) e has calm = absurd e
@@ -136,12 +130,11 @@ module _ (file : List ℕ) (call : Call) where
     complete_check (BadImage fault) e has calm = absurd e
     complete_check WriteFault e has calm = absurd e
 
-    pub refused_check : (end : End) → EndsCheck file call end → (HasProgram text → ⊥) → ((r : Reason) × (end ≡ Refused (Text r)) × IsRefused text r) ⊎ ((end ≡ ReadFault) ⊎ (end ≡ NoMemory))
+    pub refused_check : (end : End) → EndsCheck file call end → (HasProgram text → ⊥) → ((r : Reason) × (end ≡ Refused r) × IsRefused text r) ⊎ ((end ≡ ReadFault) ⊎ (end ≡ NoMemory))
     refused_check Made e none_has = absurd (none_has (e.1 text is))
-    refused_check (Refused (Text r)) e none_has = inl (r, refl, e.1 text is)
+    refused_check (Refused r) e none_has = inl (r, refl, e.1 text is)
     refused_check ReadFault e none_has = inr (inl refl)
     refused_check NoMemory e none_has = inr (inr refl)
-    refused_check (Refused Form) e none_has = absurd e
     refused_check (Ran over) e none_has = absurd e
     refused_check Words e none_has = absurd e
     refused_check (BadSchedule bad) e none_has = absurd e

@@ -152,7 +152,7 @@ module _ (job : Job) (call : Call) where
         shows (BadEntry k) e (refused, got, calm) =
             (p, h, record { read = (both, enough); refused = refused; schedule = e ∙ ap (take k) list_is; rest = nothing; wrote = record { got = got; calm = calm } })
         shows NoMemory e (got, calm) =
-            (both.calm, record { schedule = e; work = nothing.work; code = nothing.code; image = nothing.image; got = got; calm = calm })
+            (both.calm, record { schedule = e; work = nothing.work; image = nothing.image; got = got; calm = calm })
         shows (Refused reason) e s = absurd s
         shows (Ran over) e s = absurd s
         shows Words e s = absurd s

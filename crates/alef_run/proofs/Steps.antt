@@ -23,7 +23,6 @@ use Rattle.alef_run.specs.Load.{IsBadSchedule}
 use Rattle.alef_run.specs.StepMode.{EndsStep, HasText, HasBoth, bytes_of_region, first_of}
 use Rattle.alef_run.specs.declared.report.End.{End}
 use Rattle.alef_run.specs.declared.report.End.TheVariants.{Ran, Made, Words, ReadFault, Refused, BadImage, BadSchedule, BadEntry, BadNumber, WriteFault, NoMemory}
-use Rattle.alef_run.specs.declared.report.Refused.TheVariants.{Form, Text}
 use Rattle.alef_run.specs.declared.report.ScheduleFault.{ScheduleFault}
 use Rattle.alef_run.specs.declared.report.ScheduleFault.TheVariants as bad
 use Rattle.alef_run.proofs.Told.{neither, not_missing}
@@ -55,10 +54,9 @@ module _ (job : Job) (call : Call) where
   missing_step (BadEntry k) e m = absurd (e.2.read.0.program.found m)
   missing_step (BadNumber n) e m = absurd (e.2.program.found m)
   missing_step (BadSchedule f) e m = absurd (e.0.text.found m)
-  missing_step (Refused (Text r)) e m = absurd (e.0.found m)
+  missing_step (Refused r) e m = absurd (e.0.found m)
   missing_step ReadFault e m = inl refl
   missing_step NoMemory e m = inr refl
-  missing_step (Refused Form) e m = absurd e
   missing_step (Ran over) e m = absurd e
   missing_step Words e m = absurd e
   missing_step (BadImage f) e m = absurd e
@@ -69,10 +67,9 @@ module _ (job : Job) (call : Call) where
   host_step (BadEntry k) e rose = let calm = e.2.read.0.calm in absurd (omega (arith, calm, rose))
   host_step (BadNumber n) e rose = let calm = e.2.calm in absurd (omega (arith, calm, rose))
   host_step (BadSchedule f) e rose = let calm = e.2 in absurd (omega (arith, calm, rose))
-  host_step (Refused (Text r)) e rose = let calm = e.0.calm in absurd (omega (arith, calm, rose))
+  host_step (Refused r) e rose = let calm = e.0.calm in absurd (omega (arith, calm, rose))
   host_step ReadFault e rose = refl
   host_step NoMemory e rose = let calm = e.0 in absurd (omega (arith, calm, rose))
-  host_step (Refused Form) e rose = absurd e
   host_step (Ran over) e rose = absurd e
   host_step Words e rose = absurd e
   host_step (BadImage f) e rose = absurd e
@@ -83,10 +80,9 @@ module _ (job : Job) (call : Call) where
   out_step (BadEntry k) e rose = let calm = e.2.wrote.calm in absurd (omega (arith, calm, rose))
   out_step (BadNumber n) e rose = let calm = e.5.calm in absurd (omega (arith, calm, rose))
   out_step (BadSchedule f) e rose = let calm = e.3.calm in absurd (omega (arith, calm, rose))
-  out_step (Refused (Text r)) e rose = let calm = e.2.calm in absurd (omega (arith, calm, rose))
+  out_step (Refused r) e rose = let calm = e.2.calm in absurd (omega (arith, calm, rose))
   out_step ReadFault e rose = let calm = e.1.calm in absurd (omega (arith, calm, rose))
   out_step NoMemory e rose = let calm = e.1.calm in absurd (omega (arith, calm, rose))
-  out_step (Refused Form) e rose = absurd e
   out_step (Ran over) e rose = absurd e
   out_step Words e rose = absurd e
   out_step (BadImage f) e rose = absurd e
@@ -97,16 +93,15 @@ module _ (job : Job) (call : Call) where
     has_program : (p : Program) → HasText job.file p call.told → HasProgram text
     has_program p t = (p, t.accepted text is, t.within)
 
-    pub refused_step : (HasProgram text → ⊥) → (end : End) → EndsStep job call end → ((r : Reason) × (end ≡ Refused (Text r)) × IsTextRefused text r) ⊎ ((end ≡ ReadFault) ⊎ (end ≡ NoMemory))
+    pub refused_step : (HasProgram text → ⊥) → (end : End) → EndsStep job call end → ((r : Reason) × (end ≡ Refused r) × IsTextRefused text r) ⊎ ((end ≡ ReadFault) ⊎ (end ≡ NoMemory))
     refused_step none Made e = absurd (none (has_program e.0 e.3.read.0.program))
     refused_step none WriteFault e = absurd (none (has_program e.0 e.3.read.0.program))
     refused_step none (BadEntry k) e = absurd (none (has_program e.0 e.2.read.0.program))
     refused_step none (BadNumber n) e = absurd (none (has_program e.0 e.2.program))
     refused_step none (BadSchedule f) e = absurd (none (has_program e.0.program e.0.text))
-    refused_step none (Refused (Text r)) e = inl (r, refl, e.1 text is)
+    refused_step none (Refused r) e = inl (r, refl, e.1 text is)
     refused_step none ReadFault e = inr (inl refl)
     refused_step none NoMemory e = inr (inr refl)
-    refused_step none (Refused Form) e = absurd e
     refused_step none (Ran over) e = absurd e
     refused_step none Words e = absurd e
     refused_step none (BadImage f) e = absurd e
@@ -119,10 +114,9 @@ module _ (job : Job) (call : Call) where
     missing_schedule_step has m (BadEntry k) e = absurd (e.2.read.0.found m)
     missing_schedule_step has m (BadNumber n) e = absurd (e.2.found m)
     missing_schedule_step has m (BadSchedule f) e = absurd (e.0.found m)
-    missing_schedule_step has m (Refused (Text r)) e = absurd (never_both text has.0 r has.1 has.2 (e.1 text is))
+    missing_schedule_step has m (Refused r) e = absurd (never_both text has.0 r has.1 has.2 (e.1 text is))
     missing_schedule_step has m ReadFault e = inl refl
     missing_schedule_step has m NoMemory e = inr refl
-    missing_schedule_step has m (Refused Form) e = absurd e
     missing_schedule_step has m (Ran over) e = absurd e
     missing_schedule_step has m Words e = absurd e
     missing_schedule_step has m (BadImage f) e = absurd e
@@ -146,10 +140,9 @@ module _ (job : Job) (call : Call) where
         bad_schedule_step (BadEntry k) e = absurd (none_has e.0 e.1 e.2.read.0)
         bad_schedule_step (BadNumber n) e = absurd (none_has e.0 e.1 e.2)
         bad_schedule_step (BadSchedule f) e = inl (ap BadSchedule (one_fault schedule f fault (e.1 schedule named) wrong))
-        bad_schedule_step (Refused (Text r)) e = absurd (not_refused r e.1)
+        bad_schedule_step (Refused r) e = absurd (not_refused r e.1)
         bad_schedule_step ReadFault e = inr (inl refl)
         bad_schedule_step NoMemory e = inr (inr refl)
-        bad_schedule_step (Refused Form) e = absurd e
         bad_schedule_step (Ran over) e = absurd e
         bad_schedule_step Words e = absurd e
         bad_schedule_step (BadImage f) e = absurd e
@@ -172,10 +165,9 @@ module _ (job : Job) (call : Call) where
         bad_number_step few (BadEntry k) e = absurd (few_has few e.0 e.1 e.2.read.0 e.2.read.1)
         bad_number_step few (BadNumber n) e = inl (ap BadNumber (e.3 ∙ sym (ap length (same_entries e.0 e.1 e.2))))
         bad_number_step few (BadSchedule f) e = absurd (not_bad f e.1)
-        bad_number_step few (Refused (Text r)) e = absurd (not_refused r e.1)
+        bad_number_step few (Refused r) e = absurd (not_refused r e.1)
         bad_number_step few ReadFault e = inr (inl refl)
         bad_number_step few NoMemory e = inr (inr refl)
-        bad_number_step few (Refused Form) e = absurd e
         bad_number_step few (Ran over) e = absurd e
         bad_number_step few Words e = absurd e
         bad_number_step few (BadImage f) e = absurd e
@@ -206,10 +198,9 @@ module _ (job : Job) (call : Call) where
                 (run_is e.0 e.1 e.2.read.0 (λ (q : Program) (l : List Entry). IsRefused q (bytes_of_region job) l j) e.2.refused) refused))
             bad_entry_step (BadNumber n) e = absurd (not_few e.0 e.1 n e.2 e.3 e.4)
             bad_entry_step (BadSchedule f) e = absurd (not_bad f e.1)
-            bad_entry_step (Refused (Text r)) e = absurd (not_refused r e.1)
+            bad_entry_step (Refused r) e = absurd (not_refused r e.1)
             bad_entry_step ReadFault e = inr (inl refl)
             bad_entry_step NoMemory e = inr (inr refl)
-            bad_entry_step (Refused Form) e = absurd e
             bad_entry_step (Ran over) e = absurd e
             bad_entry_step Words e = absurd e
             bad_entry_step (BadImage f) e = absurd e
@@ -224,11 +215,10 @@ module _ (job : Job) (call : Call) where
                 absurd (let none = refused_none p (bytes_of_region job) (first_of job h) j (run_is e.0 e.1 e.2.read.0 (λ (q : Program) (l : List Entry). IsRefused q (bytes_of_region job) l j) e.2.refused) in cc)
             complete_step (BadNumber n) e = absurd (not_few e.0 e.1 n e.2 e.3 e.4)
             complete_step (BadSchedule f) e = absurd (not_bad f e.1)
-            complete_step (Refused (Text r)) e = absurd (not_refused r e.1)
+            complete_step (Refused r) e = absurd (not_refused r e.1)
             complete_step ReadFault e =
                 absurd (neither e.0 (λ f. neither f calm (λ m. not_missing call.told text job.file is m)) (λ m. not_missing call.told schedule job.schedule named m.lacks))
             complete_step NoMemory e = inr refl
-            complete_step (Refused Form) e = absurd e
             complete_step (Ran over) e = absurd e
             complete_step Words e = absurd e
             complete_step (BadImage f) e = absurd e

@@ -20,8 +20,6 @@ pub record Call : Type 0 where
   pub out_after : ℕ
   pub schedule : List Entry
   pub work : ℕ
-  -- the code words of a text of the first form
-  pub code : List ℕ
   -- what the image that ran contains
   pub image : Option Contents
 
@@ -37,7 +35,6 @@ call_by told told_after host_before host_after got_before got_after out_before o
   out_after = out_after;
   schedule = report.schedule;
   work = report.work;
-  code = report.code;
   image = option_map (λ (image : Arc Contents Global). image.value) report.image;
 }
 
@@ -84,7 +81,6 @@ HostFails file told faults faults_after = Faulted faults faults_after ⊎ LacksT
 pub record DidNothing (call : Call) : Type 0 where
   pub schedule : call.schedule ≡ []
   pub work : call.work ≡ 0
-  pub code : call.code ≡ []
   pub image : call.image ≡ None
   pub got : call.got_after ≡ call.got_before
   pub calm : call.out_after ≡ call.out_before

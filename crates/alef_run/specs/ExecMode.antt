@@ -1,5 +1,5 @@
 -- The mode `exec`: an image runs.
-use Rattle.std.specs.Prelude.{◌≡◌, ℕ, ◌⊎◌, List, [], Some, Err}
+use Rattle.std.specs.Prelude.{◌≡◌, ℕ, ◌⊎◌, List, Some, Err}
 use Rattle.al_words.specs.declared.job.Job.{Job}
 use Rattle.rv_isa.specs.declared.image.Contents.{Contents}
 use Rattle.rv_image.specs.Spelling.{IsImage}
@@ -15,15 +15,22 @@ use Rattle.alef_run.specs.declared.report.End.TheVariants.{Ran, Made, Words, Rea
 abbrev pub comes_to : Contents → Job → Call → History
 comes_to image job call = history_along image job.region job.entries call.schedule
 
--- The text spells this image, which ran along the schedule; `work` counts the code words that were fetched on the way.
-pub record DidExec (job : Job) (image : Contents) (call : Call) (end : End) : Type 0 where
-  pub read : WasRead job.file enough_of call
-  pub text : (text : List ℕ) → text_in call.told job.file ≡ Some text → IsImage text image
+-- This image ran along the schedule; `work` counts the code words that were fetched on the way.
+pub record DidRunImage (job : Job) (image : Contents) (call : Call) (end : End) : Type 0 where
   pub image_is : call.image ≡ Some image
-  pub code : call.code ≡ []
   pub legal : IsLegal job.workers (comes_to image job call)
   pub work : call.work ≡ work_of (comes_to image job call)
   pub ran : RanTo (comes_to image job call) end call.got_before call.got_after call.out_before call.out_after
+
+-- why the run of an image ends as it does: there was no memory for its first world, or it ran
+abbrev pub EndsImage : Job → Contents → Call → End → Type 0
+EndsImage job image call end = ((end ≡ NoMemory) × DidNothing call) ⊎ DidRunImage job image call end
+
+-- The text spells this image, which ran.
+pub record DidExec (job : Job) (image : Contents) (call : Call) (end : End) : Type 0 where
+  pub read : WasRead job.file enough_of call
+  pub text : (text : List ℕ) → text_in call.told job.file ≡ Some text → IsImage text image
+  pub run : DidRunImage job image call end
 
 -- some image ran
 abbrev pub RanImage : Job → Call → End → Type 0

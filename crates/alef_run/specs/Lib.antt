@@ -1,9 +1,11 @@
-pub mod Build
+pub mod BuildMode
 pub mod Call
 pub mod CheckMode
+pub mod Compiling
 pub mod ExecMode
 pub mod Line
 pub mod Load
+pub mod Meant
 pub mod Modes
 pub mod Outside
 pub mod Rounds
@@ -12,4 +14,3 @@ pub mod ScheduleLine
 pub mod Status
 pub mod StepMode
 pub mod TextLine
-pub mod Write

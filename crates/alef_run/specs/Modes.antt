@@ -8,6 +8,7 @@ use Rattle.rv_isa.specs.declared.image.Contents.{Contents}
 use Rattle.al_core.specs.History.{line_of}
 use Rattle.alef_run.specs.Call.{Call, IsUnread, DidNothing}
 use Rattle.alef_run.specs.RunMode.{EndsRun}
+use Rattle.alef_run.specs.BuildMode.{EndsBuild}
 use Rattle.alef_run.specs.ExecMode.{EndsExec, comes_to}
 use Rattle.alef_run.specs.CheckMode.{EndsCheck}
 use Rattle.alef_run.specs.StepMode.{EndsStep}
@@ -21,7 +22,7 @@ is_built Exec = true
 is_built Check = true
 is_built Replay = false
 is_built Recorded = false
-is_built Build = false
+is_built Build = true
 is_built Sample = false
 is_built Race = false
 is_built Step = true
@@ -40,12 +41,12 @@ abbrev pub EndsIdle : Call → End → Type 0
 EndsIdle call end = ((end ≡ Words) ⊎ (end ≡ NoMemory)) × IsUnread call × DidNothing call
 
 abbrev pub EndsIn : Mode → Job → Call → End → Type 0
-EndsIn Run job call end = EndsRun job.file call end
+EndsIn Run job call end = EndsRun job call end
 EndsIn Exec job call end = EndsExec job call end
 EndsIn Check job call end = EndsCheck job.file call end
 EndsIn Replay job call end = EndsIdle call end
 EndsIn Recorded job call end = EndsIdle call end
-EndsIn Build job call end = EndsIdle call end
+EndsIn Build job call end = EndsBuild job.file call end
 EndsIn Sample job call end = EndsIdle call end
 EndsIn Race job call end = EndsIdle call end
 EndsIn Step job call end = EndsStep job call end

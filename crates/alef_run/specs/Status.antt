@@ -10,7 +10,6 @@ use Rattle.alef_run.specs.TextLine.{text_line}
 use Rattle.alef_run.specs.ScheduleLine.{schedule_line, entry_line, number_line}
 use Rattle.alef_run.specs.declared.report.End.{End}
 use Rattle.alef_run.specs.declared.report.End.TheVariants.{Ran, Made, Words, ReadFault, Refused, BadImage, BadSchedule, BadEntry, BadNumber, WriteFault, NoMemory}
-use Rattle.alef_run.specs.declared.report.Refused.TheVariants.{Form, Text}
 
 -- the status of a program that stopped itself: 0 stays, all others show the lowest seven bits
 abbrev pub stopped : ℤ → ℕ
@@ -51,8 +50,7 @@ line_of_end line Made = []
 line_of_end line Words =
     codes "alef: usage: alef MODE [FILE [SCHEDULE]] [--workers N] [--entries N] [--region N] [--number N]\n"
 line_of_end line ReadFault = codes "alef: cannot read\n"
-line_of_end line (Refused Form) = codes "alef: another form\n"
-line_of_end line (Refused (Text reason)) = text_line reason
+line_of_end line (Refused reason) = text_line reason
 line_of_end line (BadImage fault) = image_line fault
 line_of_end line (BadSchedule fault) = schedule_line fault
 line_of_end line (BadEntry number) = entry_line number

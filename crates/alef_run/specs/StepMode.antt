@@ -18,7 +18,6 @@ use Rattle.alef_run.specs.Load.{KeepsTexts, IsBadSchedule, IsItsSchedule}
 use Rattle.alef_run.specs.Outside.{GetsAll, GetsPart}
 use Rattle.alef_run.specs.declared.report.End.{End}
 use Rattle.alef_run.specs.declared.report.End.TheVariants.{Ran, Made, Words, ReadFault, Refused, BadImage, BadSchedule, BadEntry, BadNumber, WriteFault, NoMemory}
-use Rattle.alef_run.specs.declared.report.Refused.TheVariants as because
 
 -- the bytes of the shared region of a job
 abbrev pub bytes_of_region : Job → ℕ
@@ -65,7 +64,6 @@ pub record HasNoSchedule (job : Job) (call : Call) : Type 0 where
 -- of what a call makes, all but entries
 pub record MadeNothing (call : Call) : Type 0 where
   pub work : call.work ≡ 0
-  pub code : call.code ≡ []
   pub image : call.image ≡ None
 
 -- the sink got nothing and had no fault
@@ -105,12 +103,11 @@ EndsStep job call (BadNumber n) =
 EndsStep job call (BadSchedule fault) =
     HasBadSchedule job call × ((text : List ℕ) → text_in call.told job.schedule ≡ Some text → IsBadSchedule fault text)
     × (call.host_after ≡ call.host_before) × DidNothing call
-EndsStep job call (Refused (because.Text reason)) =
+EndsStep job call (Refused reason) =
     WasRead job.file most_of_text call × ((text : List ℕ) → text_in call.told job.file ≡ Some text → IsTextRefused text reason) × DidNothing call
 EndsStep job call ReadFault =
     (HostFails job.file call.told call.host_before call.host_after ⊎ HasNoSchedule job call) × DidNothing call
 EndsStep job call NoMemory = (call.host_after ≡ call.host_before) × DidNothing call
-EndsStep job call (Refused because.Form) = ⊥
 EndsStep job call (Ran over) = ⊥
 EndsStep job call Words = ⊥
 EndsStep job call (BadImage fault) = ⊥

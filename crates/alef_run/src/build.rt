@@ -1,48 +1,48 @@
-//! From the text to what its code words print.
+//! The mode `build`: a text is compiled, and the bytes of its image are written.
 
-ghost use Rattle.std.specs.Prelude.{◌≡◌, ◌≢◌, ◌⊎◌, ◌+◌, ℕ, List, [], length, replicate, IfOk, IfErr};
-ghost use Rattle.al_first.specs.declared.form.Form.{Form};
-ghost use Rattle.al_first.specs.Form.{IsForm};
-ghost use Rattle.alef_run.specs.RunMode.{HasNoForm, first_entry};
-ghost use Rattle.alef_run.specs.Build.{IsRunOf};
+ghost use Rattle.std.specs.Prelude.{◌≡◌, None};
+ghost use Rattle.rv_isa.specs.declared.image.Contents.{Contents};
+ghost use Rattle.alef_run.specs.Status.{status_of};
+ghost use Rattle.alef_run.specs.Call.{call_by};
+ghost use Rattle.alef_run.specs.BuildMode.{EndsBuild, EndsWrite};
 
-use crate::report::{End, Refused};
-use al_base::NoMemory;
-use al_event::Entry;
-use al_first::{FormStop, read_form};
-use al_first_code::{FormRun, run_form};
-use al_items::Items;
+use crate::compiling::load_program;
+use crate::outside::write_all;
+use crate::report::{End, Report};
+use al_host::{Host, Sink};
+use rv_image::write;
+use rv_isa::image::Image;
 use std::alloc::Global;
 
-/// Reads a text, makes its code words and runs them.
-pub(crate) fn build(alloc: Global, text: &[u8]) -> Result<FormRun, End>
-    ensures run { IfOk result (λ it. (form : Form) × IsForm text.now form × IsRunOf form it) }
-    ensures refused { IfErr result (λ end. ((end ≡ End.Refused Refused.Form) × HasNoForm text.now) ⊎ (end ≡ End.NoMemory)) }
+/// Writes the bytes of an image.
+fn write_image<K: Sink>(alloc: Global, image: &Image, out: &mut K) -> End
+    ensures { EndsWrite image.now result (K.got out.old) (K.got out.new) (K.faults out.old) (K.faults out.new) }
 {
-    let form = match read_form(alloc, text) {
-        Ok(form) => form,
-        Err(FormStop::Fault) => return Err(End::Refused(Refused::Form)),
-        Err(FormStop::NoMemory) => return Err(End::NoMemory),
+    let bytes = match write(alloc, image) {
+        Ok(bytes) => bytes,
+        Err(_) => return End::NoMemory,
     };
-    match run_form(alloc, &form) {
-        Ok(it) => Ok(it),
-        Err(NoMemory) => Err(End::NoMemory),
+    match write_all(out, bytes.as_slice()) {
+        Ok(()) => End::Made,
+        Err(_) => End::WriteFault,
     }
 }
 
-/// The schedule of a run: an entry of the one proc for each print, and one for its end.
-pub(crate) fn schedule(alloc: Global, prints: u64) -> Result<Items<Entry>, NoMemory>
-    ensures { IfOk result (λ entries. entries ≡ replicate (prints + 1) first_entry) }
+/// Reads the text of that name, compiles it and writes the bytes of its image.
+pub(crate) fn build<H: Host, K: Sink>(
+    alloc: Global,
+    file: &str,
+    host: &mut H,
+    out: &mut K,
+) -> Report
+    ensures end { EndsBuild file.now (call_by (H.content host.old) (H.content host.new) (H.faults host.old) (H.faults host.new) (K.got out.old) (K.got out.new) (K.faults out.old) (K.faults out.new) result) result.end }
+    ensures image { result.image ≡ None }
+    ensures status { result.status ≡ status_of result.end }
 {
-    let first = Entry {
-        proc: 0,
-        pick: 0,
-        worker: 0,
+    let image = match load_program(alloc, host, file) {
+        Ok(image) => image,
+        Err(end) => return Report::nothing(alloc, end),
     };
-    let mut entries = Items::new(alloc);
-    entries.push(first)?;
-    for _ in 0..prints {
-        entries.push(first)?;
-    }
-    Ok(entries)
+    let end = write_image(alloc, &image, out);
+    Report::nothing(alloc, end)
 }

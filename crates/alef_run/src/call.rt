@@ -1,11 +1,8 @@
 //! The top call.
 
 ghost use Rattle.std.specs.Prelude.{◌≡◌, ◌≢◌, ◌↔◌, ◌<◌, ◌≤◌, ◌⊎◌, ℕ, List, [], length, None, Some, IsSome, Err, map, option_map};
-ghost use Rattle.al_base.specs.declared.over.Over.TheVariants as Over;
 ghost use Rattle.al_base.specs.declared.over.Over.{Over as Ending};
 ghost use Rattle.al_host.specs.Outside.{Faulted, WhereTold};
-ghost use Rattle.al_first.specs.declared.form.Form.{Form};
-ghost use Rattle.al_first.specs.Form.{IsForm};
 ghost use Rattle.al_words.specs.declared.job.Job.{Job};
 ghost use Rattle.al_words.specs.declared.job.Mode.TheVariants as Mode;
 ghost use Rattle.rv_isa.specs.declared.image.Contents.{Contents};
@@ -20,21 +17,22 @@ ghost use Rattle.al_meaning.specs.Meaning.{run};
 ghost use Rattle.al_front.specs.Accepted.{IsAccepted, IsRefused};
 ghost use Rattle.al_front.specs.declared.refused.Refused.{Refused as Reason};
 ghost use Rattle.al_show.specs.Walks.{IsRefused as IsEntryRefused};
-ghost use Rattle.alef_run.specs.declared.report.Refused.TheVariants as because;
 ghost use Rattle.alef_run.specs.declared.report.ScheduleFault.{ScheduleFault};
+ghost use Rattle.rv_meant.specs.Meant.{IsCompilable};
 ghost use Rattle.alef_run.specs.Status.{status_of, line_of_end};
 ghost use Rattle.alef_run.specs.Call.{LogGets, LacksText, text_in, call_by};
-ghost use Rattle.alef_run.specs.RunMode.{HasNoForm};
 ghost use Rattle.alef_run.specs.CheckMode.{HasProgram};
 ghost use Rattle.alef_run.specs.Load.{IsBadSchedule};
+ghost use Rattle.alef_run.specs.Meant.{EndsAsMeant};
 ghost use Rattle.alef_run.specs.StepMode.{bytes_of_region, first_of};
 ghost use Rattle.alef_run.specs.Modes.{Ends, job_by, line_in};
 
+use crate::build::build;
 use crate::check::check;
 use crate::exec::exec;
-use crate::first_form::run;
 use crate::outside::write_all;
 use crate::report::{End, Report, line_of};
+use crate::run::run;
 use crate::step::step;
 use al_host::{Host, Sink};
 use al_rounds::Gate;
@@ -62,7 +60,8 @@ fn serve<R: Threads + Wait + Sync, H: Host, K: Sink, G: Gate>(
         Err(WordsStop::NoMemory) => return (Report::nothing(alloc, End::NoMemory), 0),
     };
     match job.mode {
-        Mode::Run => (run(alloc, job.file.as_str(), host, out), 0),
+        Mode::Run => run(rt, alloc, &job, host, out, gate),
+        Mode::Build => (build(alloc, job.file.as_str(), host, out), 0),
         Mode::Exec => exec(rt, alloc, &job, host, out, gate),
         Mode::Check => (check(alloc, job.file.as_str(), host), 0),
         Mode::Step => (step(alloc, &job, host, out), 0),
@@ -82,10 +81,10 @@ fn write_line<L: Sink>(end: &End, line: u32, log: &mut L)
     }
 }
 
-/// The command `alef`. `run FILE` reads the text of that name, makes its code words, runs them and writes what they print;
-/// `exec IMAGE` reads the image of that name, runs it by workers on threads, each stretch by the gate, and writes what it puts out; `check FILE` reads the text of
-/// that name and says whether it is accepted, within the limits; `step FILE SCHEDULE` writes the world of the text after the first
-/// entries of the schedule. It says what it did, and writes a line to the log where it did not end well.
+/// The command `alef`. `run FILE` reads the text of that name, compiles it, runs its image by workers on threads, each stretch by the gate,
+/// and writes what it puts out; `build FILE` writes the image instead; `exec IMAGE` reads the image of that name and runs it as `run`
+/// does; `check FILE` says whether the text is accepted, within the limits; `step FILE SCHEDULE` writes the world of the text after the
+/// first entries of the schedule. It says what it did, and writes a line to the log where it did not end well.
 pub fn alef<R: Threads + Wait + Sync, H: Host, K: Sink, L: Sink, G: Gate>(
     rt: &R,
     alloc: Global,
@@ -107,21 +106,24 @@ pub fn alef<R: Threads + Wait + Sync, H: Host, K: Sink, L: Sink, G: Gate>(
         → (result.end ≡ End.ReadFault) ⊎ (result.end ≡ End.NoMemory) }
     ensures host_fault { H.faults host.old < H.faults host.new → result.end ≡ End.ReadFault }
     ensures out_fault { K.faults out.old < K.faults out.new → result.end ≡ End.WriteFault }
-    ensures not_a_form { (job : Job) (text : List ℕ) → job_by (map (λ word. word.now) words.now) ≡ Some job → job.mode ≡ Mode.Run
-        → text_in (H.content host.old) job.file ≡ Some text → HasNoForm text
-        → (result.end ≡ End.Refused because.Form) ⊎ ((result.end ≡ End.ReadFault) ⊎ (result.end ≡ End.NoMemory)) }
+    ensures run_refused { (job : Job) (text : List ℕ) → job_by (map (λ word. word.now) words.now) ≡ Some job → job.mode ≡ Mode.Run
+        → text_in (H.content host.old) job.file ≡ Some text → ¬ (HasProgram text)
+        → ((reason : Reason) × (result.end ≡ End.Refused reason) × IsRefused text reason) ⊎ ((result.end ≡ End.ReadFault) ⊎ (result.end ≡ End.NoMemory)) }
+    ensures build_refused { (job : Job) (text : List ℕ) → job_by (map (λ word. word.now) words.now) ≡ Some job → job.mode ≡ Mode.Build
+        → text_in (H.content host.old) job.file ≡ Some text → ¬ (HasProgram text)
+        → ((reason : Reason) × (result.end ≡ End.Refused reason) × IsRefused text reason) ⊎ ((result.end ≡ End.ReadFault) ⊎ (result.end ≡ End.NoMemory)) }
     ensures no_image { (job : Job) (text : List ℕ) (fault : ImageFault) → job_by (map (λ word. word.now) words.now) ≡ Some job → job.mode ≡ Mode.Exec
         → text_in (H.content host.old) job.file ≡ Some text → reading text ≡ Err fault
         → (result.end ≡ End.BadImage fault) ⊎ ((result.end ≡ End.ReadFault) ⊎ (result.end ≡ End.NoMemory)) }
     ensures check_refused { (job : Job) (text : List ℕ) → job_by (map (λ word. word.now) words.now) ≡ Some job → job.mode ≡ Mode.Check
         → text_in (H.content host.old) job.file ≡ Some text → ¬ (HasProgram text)
-        → ((reason : Reason) × (result.end ≡ End.Refused (because.Text reason)) × IsRefused text reason) ⊎ ((result.end ≡ End.ReadFault) ⊎ (result.end ≡ End.NoMemory)) }
+        → ((reason : Reason) × (result.end ≡ End.Refused reason) × IsRefused text reason) ⊎ ((result.end ≡ End.ReadFault) ⊎ (result.end ≡ End.NoMemory)) }
 
     // The same of stepping along a schedule: the text is looked at first, then the schedule, then how many entries it has, and then
     // the entries one after the other.
     ensures step_refused { (job : Job) (text : List ℕ) → job_by (map (λ word. word.now) words.now) ≡ Some job → job.mode ≡ Mode.Step
         → text_in (H.content host.old) job.file ≡ Some text → ¬ (HasProgram text)
-        → ((reason : Reason) × (result.end ≡ End.Refused (because.Text reason)) × IsRefused text reason) ⊎ ((result.end ≡ End.ReadFault) ⊎ (result.end ≡ End.NoMemory)) }
+        → ((reason : Reason) × (result.end ≡ End.Refused reason) × IsRefused text reason) ⊎ ((result.end ≡ End.ReadFault) ⊎ (result.end ≡ End.NoMemory)) }
     ensures missing_schedule { (job : Job) (text : List ℕ) → job_by (map (λ word. word.now) words.now) ≡ Some job → job.mode ≡ Mode.Step
         → text_in (H.content host.old) job.file ≡ Some text → HasProgram text → LacksText (H.content host.old) job.schedule
         → (result.end ≡ End.ReadFault) ⊎ (result.end ≡ End.NoMemory) }
@@ -139,12 +141,21 @@ pub fn alef<R: Threads + Wait + Sync, H: Host, K: Sink, L: Sink, G: Gate>(
         → IsEntryRefused p (bytes_of_region job) (first_of job h) k
         → (result.end ≡ End.BadEntry k) ⊎ ((result.end ≡ End.ReadFault) ⊎ (result.end ≡ End.NoMemory)) }
 
-    // A text of the first form and an image run to their end, and a text that is accepted within the limits is found to be so,
-    // unless the world outside has a fault or memory runs out.
-    ensures run { (job : Job) (text : List ℕ) (form : Form) → job_by (map (λ word. word.now) words.now) ≡ Some job → job.mode ≡ Mode.Run
-        → text_in (H.content host.old) job.file ≡ Some text → IsForm text form
+    // Where a text may be compiled, `run` writes just the output that its meaning gives along the schedule, and ends as it ends there.
+    ensures meant { (job : Job) (text : List ℕ) (p : Program) → job_by (map (λ word. word.now) words.now) ≡ Some job → job.mode ≡ Mode.Run
+        → text_in (H.content host.old) job.file ≡ Some text → IsAccepted text p → IsWithin p → IsCompilable p
+        → EndsAsMeant p job (call_by (H.content host.old) (H.content host.new) (H.faults host.old) (H.faults host.new) (K.got out.old) (K.got out.new) (K.faults out.old) (K.faults out.new) result) result.end }
+
+    // A text that is accepted within the limits and an image run to their end, and such a text is built and is found to be so, unless the
+    // world outside has a fault or memory runs out.
+    ensures run { (job : Job) (text : List ℕ) → job_by (map (λ word. word.now) words.now) ≡ Some job → job.mode ≡ Mode.Run
+        → text_in (H.content host.old) job.file ≡ Some text → HasProgram text
         → ¬ (Faulted (H.faults host.old) (H.faults host.new)) → ¬ (Faulted (K.faults out.old) (K.faults out.new))
-        → (result.end ≡ End.Ran Over.Done) ⊎ (result.end ≡ End.NoMemory) }
+        → ((over : Ending) × (result.end ≡ End.Ran over)) ⊎ (result.end ≡ End.NoMemory) }
+    ensures build { (job : Job) (text : List ℕ) → job_by (map (λ word. word.now) words.now) ≡ Some job → job.mode ≡ Mode.Build
+        → text_in (H.content host.old) job.file ≡ Some text → HasProgram text
+        → ¬ (Faulted (H.faults host.old) (H.faults host.new)) → ¬ (Faulted (K.faults out.old) (K.faults out.new))
+        → (result.end ≡ End.Made) ⊎ (result.end ≡ End.NoMemory) }
     ensures exec { (job : Job) (text : List ℕ) (image : Contents) → job_by (map (λ word. word.now) words.now) ≡ Some job → job.mode ≡ Mode.Exec
         → text_in (H.content host.old) job.file ≡ Some text → IsImage text image
         → ¬ (Faulted (H.faults host.old) (H.faults host.new)) → ¬ (Faulted (K.faults out.old) (K.faults out.new))

@@ -6,7 +6,7 @@ ghost use Rattle.alef_run.specs.Call.{call_by};
 ghost use Rattle.alef_run.specs.CheckMode.{EndsCheck, EndsText, end_of};
 
 use crate::load::load_text;
-use crate::report::{End, Refused, Report};
+use crate::report::{End, Report};
 use al_front::{FrontStop, front};
 use al_host::Host;
 use std::alloc::Global;
@@ -17,7 +17,7 @@ fn end_of<T: Drop>(found: Result<T, FrontStop>) -> End
 {
     match found {
         Ok(_) => End::Made,
-        Err(FrontStop::Refused(reason)) => End::Refused(Refused::Text(reason)),
+        Err(FrontStop::Refused(reason)) => End::Refused(reason),
         Err(FrontStop::NoMemory) => End::NoMemory,
     }
 }

@@ -1,67 +1,20 @@
 //! The mode `exec`: an image runs.
 
-ghost use Rattle.std.specs.Prelude.{◌≡◌, ◌*◌, ◌^◌, ◌≤◌, [], Some, IfOk, option_map};
-ghost use Rattle.rv_isa.specs.declared.image.Contents.{Contents};
-ghost use Rattle.al_core.specs.History.{opening, line_of, work_of};
+ghost use Rattle.std.specs.Prelude.{◌≡◌, ◌^◌, ◌≤◌, Some, option_map};
 ghost use Rattle.alef_run.specs.Status.{status_of};
-ghost use Rattle.alef_run.specs.Call.{Call, call_by};
+ghost use Rattle.alef_run.specs.Call.{call_by};
 ghost use Rattle.alef_run.specs.ExecMode.{EndsExec};
 ghost use Rattle.alef_run.specs.Modes.{line_by};
 
+use crate::image::run_image;
 use crate::load::load_image;
-use crate::report::{End, Report, status_of};
-use crate::rounds::run_world;
-use al_base::NoMemory;
-use al_core::{Limits, World};
+use crate::report::Report;
 use al_host::{Host, Sink};
-use al_items::Items;
 use al_rounds::Gate;
 use al_words::Job;
-use rv_isa::image::Image;
 use std::alloc::Global;
-use std::sync::{Arc, Wait};
+use std::sync::Wait;
 use std::thread::Threads;
-
-/// The first world of an image under the limits of a job.
-fn first_world(alloc: Global, image: Image, job: &Job) -> Result<World, NoMemory>
-    requires some_region { 1 ≤ job.now.region }
-    requires region { job.now.region ≤ 256 }
-    requires entries { job.now.entries ≤ 2 ^ 26 }
-    ensures { IfOk result (λ world. world ≡ opening image job.now.region job.now.entries) }
-{
-    let mut image = image;
-    image.make_ready(alloc)?;
-    let image = Arc::new(alloc, image)?;
-    let limits = Limits {
-        region: job.region,
-        entries: job.entries,
-    };
-    World::start(alloc, image, limits)
-}
-
-/// What there is to tell of a world that ran, and the line of the text in which it trapped.
-fn report_of(alloc: Global, world: World, end: End) -> (Report, u32)
-    ensures end { result.0.end ≡ end }
-    ensures schedule { result.0.schedule ≡ world.entries }
-    ensures work { result.0.work ≡ work_of world }
-    ensures image { option_map (λ image. image.value) result.0.image ≡ Some world.image }
-    ensures code { result.0.code ≡ [] }
-    ensures status { result.0.status ≡ status_of end }
-    ensures line { result.1 ≡ line_of world }
-{
-    let line = world.line();
-    let work = world.work();
-    let (entries, image) = world.into_parts();
-    let report = Report {
-        status: status_of(&end),
-        end,
-        schedule: Items::from_vec(entries),
-        work,
-        image: Some(image),
-        code: Items::new(alloc),
-    };
-    (report, line)
-}
 
 /// Reads the image that a job names, runs it by as many workers as the job says and writes what it puts out. It gives the line of the text in which it trapped, else 0.
 pub(crate) fn exec<R: Threads + Wait + Sync, H: Host, K: Sink, G: Gate>(
@@ -86,10 +39,5 @@ pub(crate) fn exec<R: Threads + Wait + Sync, H: Host, K: Sink, G: Gate>(
         Ok(image) => image,
         Err(end) => return (Report::nothing(alloc, end), 0),
     };
-    let world = match first_world(alloc, image, job) {
-        Ok(world) => world,
-        Err(_) => return (Report::nothing(alloc, End::NoMemory), 0),
-    };
-    let (world, end) = run_world(rt, alloc, world, job.workers, job.entries, out, gate);
-    report_of(alloc, world, end)
+    run_image(rt, alloc, image, job, out, gate)
 }

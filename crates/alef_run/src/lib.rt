@@ -4,16 +4,19 @@
 mod build;
 mod call;
 mod check;
+mod compiling;
 mod exec;
-mod first_form;
+mod image;
+mod kept;
 mod line;
 mod load;
 mod outside;
 mod refusal;
 mod report;
 mod rounds;
+mod run;
 mod schedule;
 mod step;
 
 pub use call::alef;
-pub use report::{End, Refused, Report, ScheduleFault};
+pub use report::{End, Report, ScheduleFault};

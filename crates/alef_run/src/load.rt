@@ -1,17 +1,15 @@
 //! From a name to the text, the image or the schedule under it.
 
-ghost use Rattle.std.specs.Prelude.{◌≡◌, ◌≢◌, ◌≤◌, ◌⊎◌, ℕ, List, Some, None, length, take, drop, OnOk, OnErr, IfOk, IfErr};
-ghost use Rattle.al_host.specs.Outside.{Faulted, WhereTold};
+ghost use Rattle.std.specs.Prelude.{◌≡◌, ◌≤◌, ℕ, List, Some, length, take, OnOk, IfOk, IfErr};
+ghost use Rattle.al_host.specs.Outside.{WhereTold};
 ghost use Rattle.al_counts.specs.Counts.{most_entries};
 ghost use Rattle.rv_image.specs.Spelling.{IsImage};
 ghost use Rattle.rv_image.specs.Front.{enough_of};
-ghost use Rattle.alef_run.specs.Call.{IsRead, text_in, LacksText, LeavesRest};
+ghost use Rattle.alef_run.specs.Call.{IsRead, text_in};
 ghost use Rattle.alef_run.specs.CheckMode.{most_of_text};
 ghost use Rattle.alef_run.specs.Load.{ReadsOn, StopsReading, KeepsTexts, LacksBytes, LacksImage, IsScheduleRead, LacksSchedule};
 
-use crate::outside::read_front;
 use crate::report::{End, ScheduleFault};
-use al_base::Failed;
 use al_event::Entry;
 use al_host::Host;
 use al_trace::TraceStop;
@@ -27,21 +25,6 @@ const MOST_OF_TEXT: usize = (1 << 20) + 1;
 
 /// A text or an image is read in pieces of so many bytes.
 const PIECE: usize = 4096;
-
-/// Reads the text of that name to its end, or to the end of a buffer, and says how much that is.
-pub(crate) fn read_file<H: Host>(host: &mut H, name: &str, buf: &mut [u8]) -> Result<usize, Failed>
-    ensures within { IfOk result (λ n. n ≤ length buf.old) }
-    ensures text { IfOk result (λ n. (text : List ℕ) → text_in (H.content host.old) name.now ≡ Some text
-        → take n buf.new ≡ take (length buf.new) text) }
-    ensures rest { OnOk result ((text : List ℕ) → text_in (H.content host.old) name.now ≡ Some text
-        → LeavesRest (drop (length buf.new) text) (H.content host.new)) }
-    ensures found { OnOk result (LacksText (H.content host.old) name.now → ⊥) }
-    ensures calm { OnOk result (H.faults host.new ≡ H.faults host.old) }
-    ensures cause { OnErr result (Faulted (H.faults host.old) (H.faults host.new) ⊎ LacksText (H.content host.old) name.now) }
-{
-    host.find(name)?;
-    read_front(host, buf)
-}
 
 /// Reads on, until there are `most` bytes or nothing is left.
 fn read_on<H: Host>(host: &mut H, bytes: &mut Vec<u8>, most: usize) -> Result<(), End>

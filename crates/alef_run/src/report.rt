@@ -6,20 +6,12 @@ use crate::refusal::text_line;
 use crate::schedule::{entry_line, number_line, schedule_line};
 use al_base::{Over, over_line};
 use al_event::Entry;
+use al_front::Refused;
 use al_items::Items;
 use rv_image::ImageFault;
 use rv_isa::image::Image;
 use std::alloc::Global;
 use std::sync::Arc;
-
-/// Why a text was refused.
-#[derive(Clone, Copy, Debug, PartialEq, Eq)]
-pub enum Refused {
-    /// It is of another form than `run` takes. This goes when `run` takes whole texts.
-    Form,
-    /// It is not accepted, or passes a limit.
-    Text(al_front::Refused),
-}
 
 /// Why bytes are no schedule.
 #[derive(Clone, Copy, Debug, PartialEq, Eq)]
@@ -35,13 +27,14 @@ pub enum ScheduleFault {
 pub enum End {
     /// The program ran, and was over like this.
     Ran(Over),
-    /// What was asked for was done, and it was no run: the text is accepted, within the limits, or its world was shown.
+    /// What was asked for was done, and it was no run: the text is accepted, within the limits, or its image was written, or its
+    /// world was shown.
     Made,
     /// The words are no job.
     Words,
     /// The host did not give the text or the image.
     ReadFault,
-    /// The text was refused.
+    /// The text is not accepted, or passes a limit.
     Refused(Refused),
     /// The bytes are no image.
     BadImage(ImageFault),
@@ -69,8 +62,6 @@ pub struct Report {
     pub work: u128,
     /// The image that ran, if one did.
     pub image: Option<Arc<Image>>,
-    /// The code words that were made of a text of the first form, empty where none were.
-    pub code: Items<u32>,
 }
 
 impl Report {
@@ -80,7 +71,6 @@ impl Report {
         ensures schedule { result.schedule ≡ [] }
         ensures work { result.work ≡ 0 }
         ensures image { result.image ≡ None }
-        ensures code { result.code ≡ [] }
         ensures status { result.status ≡ status_of end }
     {
         Report {
@@ -89,7 +79,6 @@ impl Report {
             schedule: Items::new(alloc),
             work: 0,
             image: None,
-            code: Items::new(alloc),
         }
     }
 }
@@ -163,8 +152,7 @@ pub(crate) fn line_of<'a>(end: &End, line: u32, buf: &'a mut [u8; 80]) -> &'a [u
             b"alef: usage: alef MODE [FILE [SCHEDULE]] [--workers N] [--entries N] [--region N] [--number N]\n"
         }
         End::ReadFault => b"alef: cannot read\n",
-        End::Refused(Refused::Form) => b"alef: another form\n",
-        End::Refused(Refused::Text(reason)) => {
+        End::Refused(reason) => {
             let len = text_line(buf, *reason);
             &buf[..len]
         }

@@ -11,9 +11,10 @@ ghost use Rattle.alef_run.specs.Call.{call_by};
 ghost use Rattle.alef_run.specs.StepMode as spec;
 ghost use Rattle.alef_run.specs.StepMode.{EndsStep, EndsShow, IsProgramRead, IsFound, bytes_of_region};
 
+use crate::kept::kept;
 use crate::load::{load_schedule, load_text};
 use crate::outside::write_all;
-use crate::report::{End, Refused, Report, status_of};
+use crate::report::{End, Report, status_of};
 use al_event::Entry;
 use al_front::{FrontStop, front};
 use al_host::{Host, Sink};
@@ -84,7 +85,6 @@ fn report_of(alloc: Global, end: End, entries: Items<Entry>) -> Report
     ensures schedule { result.schedule ≡ take (spec.made_of end (length entries)) entries }
     ensures work { result.work ≡ 0 }
     ensures image { result.image ≡ None }
-    ensures code { result.code ≡ [] }
     ensures status { result.status ≡ status_of end }
 {
     let mut entries = entries;
@@ -95,7 +95,6 @@ fn report_of(alloc: Global, end: End, entries: Items<Entry>) -> Report
         schedule: entries,
         work: 0,
         image: None,
-        code: Items::new(alloc),
     }
 }
 
@@ -151,18 +150,9 @@ fn step_found<H: Host, K: Sink>(
 {
     match found {
         Ok(program) => step_along(alloc, program, job, host, out),
-        Err(FrontStop::Refused(reason)) => {
-            Report::nothing(alloc, End::Refused(Refused::Text(*reason)))
-        }
+        Err(FrontStop::Refused(reason)) => { Report::nothing(alloc, End::Refused(*reason)) }
         Err(FrontStop::NoMemory) => Report::nothing(alloc, End::NoMemory),
     }
-}
-
-/// What is kept, where something else is let go, whose type is not looked into here.
-fn kept<T, U: Drop>(it: T, _other: U) -> T
-    ensures { result ≡ it }
-{
-    it
 }
 
 /// Reads the text and the schedule that a job names, and shows the world of the text after as many entries as the job says.

@@ -4,7 +4,7 @@ use crate::images::*;
 use al_base::{Over, Trap};
 use al_host::{MemHost, MemSink};
 use al_rounds::OpenGate;
-use alef_run::{End, Refused, alef};
+use alef_run::{End, alef};
 use rv_image::ImageFault;
 use std::alloc::Global;
 use std::process::Abort;
@@ -71,111 +71,6 @@ pub(super) fn compare<R: Threads + Wait + Sync + Abort>(
     assert_eq!(rt; report.schedule.len(), want.entries);
     assert_eq!(rt; out.got(), want.out.as_bytes());
     assert_eq!(rt; log.got(), want.log.as_bytes());
-    Ok(())
-}
-
-const NO_JOB: Want<'static> = Want {
-    words: &[],
-    end: End::Words,
-    status: 2,
-    entries: 0,
-    out: "",
-    log: USAGE,
-};
-
-/// Texts of the first form, one that is none, and words.
-const TEXTS: [(&str, Want<'static>); 9] = [
-    (
-        "void main(){int a; a = 40 + 2; print(\"%d\\n\", a);}\n",
-        Want {
-            words: &["run", "a"],
-            end: End::Ran(Over::Done),
-            status: 0,
-            entries: 2,
-            out: "42\n",
-            log: "",
-        },
-    ),
-    (
-        "void main(){}",
-        Want {
-            words: &["run", "a", "--entries", "1"],
-            end: End::Ran(Over::Done),
-            status: 0,
-            entries: 1,
-            out: "",
-            log: "",
-        },
-    ),
-    (
-        "void main(){int a;a=2147483647;print(\"%d\\n\",a+1);}",
-        Want {
-            words: &["run", "a"],
-            end: End::Ran(Over::Done),
-            status: 0,
-            entries: 2,
-            out: "-2147483648\n",
-            log: "",
-        },
-    ),
-    (
-        "void main(){int a;a=-1;}",
-        Want {
-            words: &["run", "a"],
-            end: End::Refused(Refused::Form),
-            status: 1,
-            entries: 0,
-            out: "",
-            log: "alef: another form\n",
-        },
-    ),
-    (
-        "void main(){}",
-        Want {
-            words: &["run", "b"],
-            end: End::ReadFault,
-            status: 3,
-            entries: 0,
-            out: "",
-            log: "alef: cannot read\n",
-        },
-    ),
-    (
-        "void main(){}",
-        Want {
-            words: &["run"],
-            ..NO_JOB
-        },
-    ),
-    (
-        "void main(){}",
-        Want {
-            words: &["run", "a", "--workers", "0"],
-            ..NO_JOB
-        },
-    ),
-    (
-        "void main(){}",
-        Want {
-            words: &["walk", "a"],
-            ..NO_JOB
-        },
-    ),
-    // a mode that is yet to come
-    (
-        "void main(){}",
-        Want {
-            words: &["build", "a"],
-            ..NO_JOB
-        },
-    ),
-];
-
-#[test]
-fn texts_run_or_are_refused(rt: HostRuntime) -> Result<(), Fail> {
-    for (text, want) in &TEXTS {
-        compare(&rt, rt.alloc(), text.as_bytes(), want)?;
-    }
     Ok(())
 }
 
@@ -313,7 +208,7 @@ fn hostile_images_trap(rt: HostRuntime) -> Result<(), Fail> {
     Ok(())
 }
 
-fn is_no_image<R: Threads + Wait + Sync + Abort>(
+pub(super) fn is_no_image<R: Threads + Wait + Sync + Abort>(
     rt: &R,
     alloc: Global,
     bytes: &[u8],

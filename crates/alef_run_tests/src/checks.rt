@@ -7,7 +7,7 @@ use al_rounds::OpenGate;
 use al_rules::TypeFault;
 use al_tree::{ParseFault, ParseReason};
 use al_typed::Limit;
-use alef_run::{End, Refused, alef};
+use alef_run::{End, alef};
 use std::test::Fail;
 
 const MADE: Want<'static> = Want {
@@ -123,7 +123,7 @@ fn texts_are_accepted(rt: HostRuntime) -> Result<(), Fail> {
 fn texts_are_refused(rt: HostRuntime) -> Result<(), Fail> {
     for (text, reason, log) in &REFUSED {
         let want = Want {
-            end: End::Refused(Refused::Text(*reason)),
+            end: End::Refused(*reason),
             status: 1,
             log,
             ..MADE

@@ -8,6 +8,8 @@ mod checks;
 #[cfg(test)]
 mod images;
 #[cfg(test)]
+mod runs;
+#[cfg(test)]
 mod steps;
 #[cfg(test)]
 mod workers;

@@ -7,7 +7,7 @@ use al_front::Refused as Reason;
 use al_host::MemHost;
 use al_rounds::OpenGate;
 use al_rules::TypeFault;
-use alef_run::{End, Refused, ScheduleFault, alef};
+use alef_run::{End, ScheduleFault, alef};
 use std::alloc::Global;
 use std::process::Abort;
 use std::sync::Wait;
@@ -130,10 +130,10 @@ const CALLS: [Want<'static>; 6] = [
     },
     Want {
         text: "int x; void main(){x=y;}",
-        end: End::Refused(Refused::Text(Reason::Typing(TypeFault {
+        end: End::Refused(Reason::Typing(TypeFault {
             rule: 1,
             place: Place { line: 1, col: 22 },
-        }))),
+        })),
         status: 1,
         entries: 0,
         out: "",

@@ -1,10 +1,11 @@
-//! Images that several workers run on threads.
+//! Images and texts that several workers run on threads.
 
 ghost use Rattle.std.specs.Prelude.{◌≡◌, ◌+◌, ◌<◌, ◌≤◌, length};
 ghost use Rattle.al_core.specs.History.{away};
 
 use crate::calls::{bytes_of, host_of, sink};
 use crate::images::{RACES, STORES};
+use crate::runs::SERVER;
 use al_base::{NoMemory, Over};
 use al_core::{Limits, World};
 use al_event::Entry;
@@ -23,16 +24,15 @@ use std::thread::Threads;
 /// How many entries a run of these tests may have.
 const MOST: u64 = 1000;
 
-/// What came of a call with these words where an image of these numbers stands under `a`, and what was written.
+/// What came of a call with these words where these bytes stand under `a`, and what was written.
 fn called<R: Threads + Wait + Sync + Abort, G: Gate>(
     rt: &R,
     alloc: Global,
-    numbers: &[u32],
+    bytes: &[u8],
     words: &[&str],
     gate: &G,
 ) -> Result<(Report, MemSink), Fail> {
-    let bytes = bytes_of(alloc, numbers)?;
-    let mut host = host_of(alloc, &bytes, &[])?;
+    let mut host = host_of(alloc, bytes, &[])?;
     let mut out = sink(alloc, 1 << 20, &[])?;
     let mut log = sink(alloc, 1 << 20, &[])?;
     let report = alef(rt, alloc, words, &mut host, &mut out, &mut log, gate);
@@ -100,8 +100,9 @@ fn races_are_as_their_schedules_say(rt: HostRuntime) -> Result<(), Fail> {
         "--entries",
         "1000",
     ];
+    let bytes = bytes_of(rt.alloc(), &RACES)?;
     for _ in 0u32..400 {
-        let (report, out) = called(&rt, rt.alloc(), &RACES, &words, &OpenGate)?;
+        let (report, out) = called(&rt, rt.alloc(), &bytes, &words, &OpenGate)?;
         assert_eq!(&rt; report.end, End::Ran(Over::Done));
         assert_eq!(&rt; report.schedule.len(), 136);
         assert!(&rt;
@@ -153,21 +154,25 @@ impl Gate for Meeting {
     }
 }
 
-/// A top call that gives its image to one worker never has two inside.
-#[test]
-fn two_workers_meet_in_alef(rt: HostRuntime) -> Result<(), Fail> {
+/// A call with these words has two workers inside at one time, and entries of both.
+fn two_meet<R: Threads + Wait + Sync + Abort>(
+    rt: &R,
+    alloc: Global,
+    bytes: &[u8],
+    mode: &str,
+) -> Result<(), Fail> {
     let gate = Meeting {
         inside: AtomicCell::new(0),
         met: AtomicCell::new(false),
         failed: AtomicCell::new(false),
     };
-    let words = ["exec", "a", "--workers", "2", "--entries", "64"];
-    let (report, _out) = called(&rt, rt.alloc(), &STORES, &words, &gate)?;
-    assert_eq!(&rt; report.end, End::Ran(Over::Spent));
-    assert!(&rt; gate.met.load(), "no two workers were inside");
-    assert!(&rt; !gate.failed.load(), "a worker was held in vain");
+    let words = [mode, "a", "--workers", "2", "--entries", "64"];
+    let (report, _out) = called(rt, alloc, bytes, &words, &gate)?;
+    assert_eq!(rt; report.end, End::Ran(Over::Spent));
+    assert!(rt; gate.met.load(), "no two workers were inside");
+    assert!(rt; !gate.failed.load(), "a worker was held in vain");
     for worker in 0..2 {
-        assert!(&rt;
+        assert!(rt;
             report
                 .schedule
                 .as_slice()
@@ -176,5 +181,54 @@ fn two_workers_meet_in_alef(rt: HostRuntime) -> Result<(), Fail> {
             "worker {worker}"
         );
     }
+    Ok(())
+}
+
+/// A top call that gives its image to one worker never has two inside.
+#[test]
+fn two_workers_meet_in_alef(rt: HostRuntime) -> Result<(), Fail> {
+    let alloc = rt.alloc();
+    let bytes = bytes_of(alloc, &STORES)?;
+    two_meet(&rt, alloc, &bytes, "exec")?;
+    let text = b"void f(){while(1);} void main(){proc f();proc f();while(1);}";
+    two_meet(&rt, alloc, text, "run")
+}
+
+/// Counts the stretches that are run, and their code words.
+#[derive(Drop)]
+struct Counting {
+    calls: AtomicCell<u64>,
+    work: AtomicCell<u64>,
+}
+
+impl Gate for Counting {
+    fn stretch(
+        &self,
+        alloc: Global,
+        image: &Image,
+        _worker: u8,
+        _entries: u64,
+        held: Held,
+    ) -> Result<Asked, (Held, NoMemory)> {
+        let asked = stretch(alloc, image, held);
+        self.calls.fetch_add(1);
+        if let Ok(asked) = &asked {
+            self.work.fetch_add(asked.work);
+        }
+        asked
+    }
+}
+
+/// What `run` writes comes from the stretches of its image.
+#[test]
+fn stretches_make_the_run(rt: HostRuntime) -> Result<(), Fail> {
+    let gate = Counting {
+        calls: AtomicCell::new(0),
+        work: AtomicCell::new(0),
+    };
+    let (report, out) = called(&rt, rt.alloc(), SERVER.as_bytes(), &["run", "a"], &gate)?;
+    assert_eq!(&rt; out.got(), b"sum 110\n".as_slice());
+    assert!(&rt; gate.calls.load() >= report.schedule.len() as u64);
+    assert!(&rt; u128::from(gate.work.load()) >= report.work);
     Ok(())
 }

@@ -1,4 +1,4 @@
-//! Tests of the machine (rv_isa, rv_asm, rv_exec, rv_long, rv_hart, rv_image), apart from these so that each is proved once.
+//! Tests of the machine (rv_isa, rv_asm, rv_exec, rv_long, rv_image), apart from these so that each is proved once.
 #![tactic(auto)]
 
 #[cfg(test)]
@@ -7,8 +7,6 @@ mod asks;
 mod calls;
 #[cfg(test)]
 mod encodings;
-#[cfg(test)]
-mod harts;
 #[cfg(test)]
 mod images;
 #[cfg(test)]

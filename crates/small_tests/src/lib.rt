@@ -4,11 +4,7 @@
 #[cfg(test)]
 mod channels;
 #[cfg(test)]
-mod codes;
-#[cfg(test)]
 mod crossing;
-#[cfg(test)]
-mod forms;
 #[cfg(test)]
 mod hosts;
 #[cfg(test)]

@@ -1,4 +1,5 @@
-use Rattle.alef_run.proofs.Causes.{words_cause, words_end, missing_end, host_end, out_end, refused_end, no_image_end, complete_end, image_end, text_end, no_text_end, step_refused_end, missing_schedule_end, bad_schedule_end, bad_number_end, bad_entry_end, stepped_end}
+use Rattle.alef_run.proofs.Jobs.{job_bounded}
+use Rattle.alef_run.proofs.Causes.{job_was, words_cause, words_end, missing_end, host_end, out_end, refused_end, unbuilt_end, no_image_end, meant_end, complete_end, built_end, image_end, text_end, no_text_end, step_refused_end, missing_schedule_end, bad_schedule_end, bad_number_end, bad_entry_end, stepped_end}
 use Rattle.alef_run.proofs.call.alef.Goals as goal
 
 pub returns-clause-words : goal.returns-clause-words
@@ -16,14 +17,23 @@ returns-clause-host_fault g c = host_end _ _ _ c.serve-report.ensures.end
 pub returns-clause-out_fault : goal.returns-clause-out_fault
 returns-clause-out_fault g c = out_end _ _ _ c.serve-report.ensures.end
 
-pub returns-clause-not_a_form : goal.returns-clause-not_a_form
-returns-clause-not_a_form g c = λ job text. refused_end _ _ _ job text c.serve-report.ensures.end
+pub returns-clause-run_refused : goal.returns-clause-run_refused
+returns-clause-run_refused g c = λ job text. refused_end _ _ _ job text c.serve-report.ensures.end
+
+pub returns-clause-build_refused : goal.returns-clause-build_refused
+returns-clause-build_refused g c = λ job text. unbuilt_end _ _ _ job text c.serve-report.ensures.end
 
 pub returns-clause-no_image : goal.returns-clause-no_image
 returns-clause-no_image g c = λ job text fault. no_image_end _ _ _ job text fault c.serve-report.ensures.end
 
 pub returns-clause-run : goal.returns-clause-run
-returns-clause-run g c = λ job text form. complete_end _ _ _ job text form c.serve-report.ensures.end
+returns-clause-run g c = λ job text. complete_end _ _ _ job text c.serve-report.ensures.end
+
+pub returns-clause-build : goal.returns-clause-build
+returns-clause-build g c = λ job text. built_end _ _ _ job text c.serve-report.ensures.end
+
+pub returns-clause-meant : goal.returns-clause-meant
+returns-clause-meant g c = λ job text p is. meant_end _ _ _ job text p (job_bounded _ job (job_was _ job is)).region c.serve-report.ensures.end is
 
 pub returns-clause-exec : goal.returns-clause-exec
 returns-clause-exec g c = λ job text image. image_end _ _ _ job text image c.serve-report.ensures.end

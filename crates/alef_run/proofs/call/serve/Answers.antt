@@ -1,28 +1,49 @@
 use Rattle.alef_run.proofs.Jobs.{job_bounded}
-use Rattle.alef_run.proofs.Causes.{run_end, check_end, step_end}
+use Rattle.alef_run.proofs.Causes.{run_end, build_end, check_end, step_end}
 use Rattle.alef_run.proofs.call.serve.Goals as goal
 
 pub returns-in-Run-clause-end : goal.returns-in-Run-clause-end
-returns-in-Run-clause-end g c = run_end _ c.run.result.end _ c.in-Ok.job c.as_str.result.now c.in-Ok.ensures c.in-Run.is c.as_str.ensures c.run.ensures.end
+returns-in-Run-clause-end g c = run_end _ c.run.result.0.end _ c.in-Ok.job c.in-Ok.ensures c.in-Run.is c.run.ensures.end
+
+pub returns-in-Build-clause-end : goal.returns-in-Build-clause-end
+returns-in-Build-clause-end g c = build_end _ c.build.result.end _ c.in-Ok.job c.as_str.result.now c.in-Ok.ensures c.in-Build.is c.as_str.ensures c.build.ensures.end
 
 pub returns-in-Check-clause-end : goal.returns-in-Check-clause-end
 returns-in-Check-clause-end g c =
     check_end _ c.check.result.end _ c.in-Ok.job c.as_str-in-Check.result.now c.in-Ok.ensures c.in-Check.is c.as_str-in-Check.ensures (c.check.ensures.end (g.K.Sink.got c.args.out.now) (g.K.Sink.faults c.args.out.now))
 
+pub run-requires-clause-some_workers : goal.run-requires-clause-some_workers
+run-requires-clause-some_workers g c κs within = (job_bounded _ c.in-Ok.job c.in-Ok.ensures).some_workers
+
 pub exec-requires-clause-some_workers : goal.exec-requires-clause-some_workers
 exec-requires-clause-some_workers g c κs within = (job_bounded _ c.in-Ok.job c.in-Ok.ensures).some_workers
+
+pub run-requires-clause-few_workers : goal.run-requires-clause-few_workers
+run-requires-clause-few_workers g c κs within = (job_bounded _ c.in-Ok.job c.in-Ok.ensures).workers
 
 pub exec-requires-clause-few_workers : goal.exec-requires-clause-few_workers
 exec-requires-clause-few_workers g c κs within = (job_bounded _ c.in-Ok.job c.in-Ok.ensures).workers
 
+pub run-requires-clause-some_region : goal.run-requires-clause-some_region
+run-requires-clause-some_region g c κs within = (job_bounded _ c.in-Ok.job c.in-Ok.ensures).some_region
+
 pub exec-requires-clause-some_region : goal.exec-requires-clause-some_region
 exec-requires-clause-some_region g c κs within = (job_bounded _ c.in-Ok.job c.in-Ok.ensures).some_region
+
+pub run-requires-clause-region : goal.run-requires-clause-region
+run-requires-clause-region g c κs within = (job_bounded _ c.in-Ok.job c.in-Ok.ensures).region
 
 pub exec-requires-clause-region : goal.exec-requires-clause-region
 exec-requires-clause-region g c κs within = (job_bounded _ c.in-Ok.job c.in-Ok.ensures).region
 
+pub run-requires-clause-some_entries : goal.run-requires-clause-some_entries
+run-requires-clause-some_entries g c κs within = (job_bounded _ c.in-Ok.job c.in-Ok.ensures).some_entries
+
 pub exec-requires-clause-some_entries : goal.exec-requires-clause-some_entries
 exec-requires-clause-some_entries g c κs within = (job_bounded _ c.in-Ok.job c.in-Ok.ensures).some_entries
+
+pub run-requires-clause-entries : goal.run-requires-clause-entries
+run-requires-clause-entries g c κs within = (job_bounded _ c.in-Ok.job c.in-Ok.ensures).entries
 
 pub exec-requires-clause-entries : goal.exec-requires-clause-entries
 exec-requires-clause-entries g c κs within = (job_bounded _ c.in-Ok.job c.in-Ok.ensures).entries

@@ -2,7 +2,7 @@ use Rattle.std.proofs.Common.{◌≡◌, ℕ, List, refl, sym, ◌∙◌, subst}
 use Rattle.alef_run.specs.Call.{call_by}
 use Rattle.alef_run.specs.StepMode.{EndsStep, IsFound}
 use Rattle.alef_run.specs.declared.report.Report.{Report}
-use Rattle.alef_run.proofs.Stages.{no_image}
+use Rattle.alef_run.proofs.Reports.{no_image}
 use Rattle.alef_run.proofs.Stepping.{found_has_room, no_bytes, text_found}
 use Rattle.alef_run.proofs.step.step.Goals as goal
 
@@ -10,7 +10,7 @@ pub returns-in-Err-clause-end : goal.returns-in-Err-clause-end
 returns-in-Err-clause-end g c =
     let done = c.nothing.ensures in
     no_bytes c.args.job.now _ c.as_str.result.now _ _ c.as_str.ensures done.end c.in-Err.ensures.none
-    (record { schedule = done.schedule; work = done.work; code = done.code; image = no_image _ done.image; got = refl; calm = refl })
+    (record { schedule = done.schedule; work = done.work; image = no_image _ done.image; got = refl; calm = refl })
 
 pub returns-clause-end : goal.returns-clause-end
 returns-clause-end g c =

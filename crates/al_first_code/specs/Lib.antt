@@ -1,3 +1,0 @@
-pub mod Code
-pub mod Words
-pub mod Asks
