@@ -1,16 +1,21 @@
 -- The operations of operators and conversions, by what they do to their parts.
-use Rattle.std.proofs.Common.{◌≡◌, ℕ, Bool, true, false, not, ◌&&◌, if◌then◌else◌, List, ◌++◌, refl, sym}
+use Rattle.std.proofs.Common.{◌≡◌, ℕ, ◌+◌, Bool, true, false, not, ◌&&◌, if◌then◌else◌, List, ◌++◌, Option, Some, None, refl, sym, ap, ◌∙◌}
 use Rattle.std.proofs.lemmas.Bool.{true≢false}
 use Rattle.al_base.specs.declared.arith.Kind.{Kind}
 use Rattle.al_typed.specs.declared.ty.Ty.{Ty, Integer, Tuple'}
 use Rattle.al_typed.specs.declared.expression.BinaryOp.{BinaryOp}
+use Rattle.al_typed.specs.declared.expression.Movement.{Movement}
+use Rattle.al_typed.specs.declared.expression.Movement.TheVariants as movement
 use Rattle.al_typed.specs.declared.expression.Logic.{Logic}
 use Rattle.al_typed.specs.declared.expression.Logic.TheVariants as logic
+use Rattle.al_meaning.specs.Here.{pointee}
 use Rattle.al_ir.specs.declared.ir.Operation.{Operation}
-use Rattle.al_lower_code.specs.Homes.{Spot, words}
-use Rattle.al_lower_code.specs.Operators.{is_long, compares, keeps_bits, stays, all_stay, skip_if_zero}
-use Rattle.al_lower_code.specs.Coded.{Coded}
-use Rattle.al_lower_code.specs.Values.{binary_value, binary_coded, logical_coded, complement_coded, converted_coded}
+use Rattle.al_ir.specs.declared.op.Op.TheVariants.{Advance, Offset}
+use Rattle.al_lower_code.specs.Homes.{Spot, size, here}
+use Rattle.al_lower_code.specs.Operators.{is_long, compares, keeps_bits, stays, all_stay, step_bytes}
+use Rattle.al_lower_code.specs.Coded.{Coded, operand_code, operand_slot, first_slot}
+use Rattle.al_lower_code.specs.Values.{binary_value, binary_coded, logical_coded, movement_coded, pair_code, converted_coded}
+use Rattle.al_lower_forms.specs.Same.{is_back}
 use Rattle.al_lower_expr.specs.Computed.{compare_unless, logical_value, logical_unless, changed_value}
 
 -- what is found either way
@@ -31,19 +36,6 @@ each_way field other true x y p q = p
 each_way field other false x y p q = q
 
 -- ---- operators
-
-pub complement_drops : (s : Spot) (t : Ty) (k : Kind) (c : Coded) (to : ℕ) → (complement_coded s t k c).effect to ≡ (complement_coded s t k c).value to to
-complement_drops s t k c to = each_way (λ (x : Coded). x.effect to) (λ (x : Coded). x.value to to) (is_long k) _ _ refl refl
-
-pub complement_decides : (s : Spot) (t : Ty) (k : Kind) (c : Coded) (to count : ℕ) → (complement_coded s t k c).unless to count ≡ (complement_coded s t k c).value to to ++ skip_if_zero s (words s t) to to count
-complement_decides s t k c to count =
-    each_way (λ (x : Coded). x.unless to count) (λ (x : Coded). x.value to to ++ skip_if_zero s (words s t) to to count) (is_long k) _ _ refl refl
-
-pub complement_points : (s : Spot) (t : Ty) (k : Kind) (c : Coded) (lasting : Bool) (to : ℕ) → (complement_coded s t k c).pointer lasting to ≡ (complement_coded s t k c).value to to
-complement_points s t k c lasting to =
-    each_way (λ (x : Coded). x.pointer lasting to) (λ (x : Coded). x.value to to) (is_long k) _ _ (either_way lasting _) (either_way lasting _)
-
-pub ruleset signs = (complement_drops, complement_decides, complement_points, either_way)
 
 value_of_either : (b : Bool) (x y : Coded) (dest to : ℕ) (code : List Operation) → x.value dest to ≡ code → y.value dest to ≡ code → (if b then x else y).value dest to ≡ code
 value_of_either true x y dest to code p q = p
@@ -73,25 +65,44 @@ converted_changes s (Tuple' l ts) (Tuple' m us) c dest to h = other_of (λ (x : 
 converted_changes s (Tuple' l ts) _ c dest to h = absurd (true≢false h)
 converted_changes s _ _ c dest to h = absurd (true≢false h)
 
-pub converted_drops : (s : Spot) (from into : Ty) (c : Coded) (to : ℕ) → stays from into ≡ false → (converted_coded s from into c).effect to ≡ changed_value s from into c to to
-converted_drops s (Integer k) (Integer j) c to h = other_of (λ (x : Coded). x.effect to) (keeps_bits k j) c _ _ h refl
-converted_drops s (Integer k) _ c to h = absurd (true≢false h)
-converted_drops s (Tuple' l ts) (Tuple' m us) c to h = other_of (λ (x : Coded). x.effect to) (all_stay ts us) c _ _ h refl
-converted_drops s (Tuple' l ts) _ c to h = absurd (true≢false h)
-converted_drops s _ _ c to h = absurd (true≢false h)
+-- ---- pointers that move
 
-pub converted_decides : (s : Spot) (from into : Ty) (c : Coded) (to count : ℕ) → stays from into ≡ false
-    → (converted_coded s from into c).unless to count ≡ changed_value s from into c to to ++ skip_if_zero s (words s into) to to count
-converted_decides s (Integer k) (Integer j) c to count h = other_of (λ (x : Coded). x.unless to count) (keeps_bits k j) c _ _ h refl
-converted_decides s (Integer k) _ c to count h = absurd (true≢false h)
-converted_decides s (Tuple' l ts) (Tuple' m us) c to count h = other_of (λ (x : Coded). x.unless to count) (all_stay ts us) c _ _ h refl
-converted_decides s (Tuple' l ts) _ c to count h = absurd (true≢false h)
-converted_decides s _ _ c to count h = absurd (true≢false h)
+-- by a count that is known
+pub moves_known : (s : Spot) (t : Ty) (how : Movement) (p c : Coded) (dest to n : ℕ) → c.known ≡ Some n
+    → operand_code p to ++ here s (Offset dest (operand_slot p to) (step_bytes (is_back how) (size s (pointee t)) n)) ≡ (movement_coded s t how p c).value dest to
+moves_known s t movement.Forward p c dest to n h = sym (ap (λ (k : Option ℕ). elim k as (λ (_ : Option ℕ). List Operation) [ Some n ↦ operand_code p to ++ here s (Offset dest (operand_slot p to) (step_bytes false (size s (pointee t)) n)) | None ↦ pair_code 1 p c to ++ here s (Advance false (size s (pointee t)) dest (first_slot p c to) (operand_slot c (to + 1))) ]) h)
+moves_known s t movement.CountFirst p c dest to n h = sym (ap (λ (k : Option ℕ). elim k as (λ (_ : Option ℕ). List Operation) [ Some n ↦ operand_code p to ++ here s (Offset dest (operand_slot p to) (step_bytes false (size s (pointee t)) n)) | None ↦ pair_code 1 c p to ++ here s (Advance false (size s (pointee t)) dest (operand_slot p (to + 1)) (first_slot c p to)) ]) h)
+moves_known s t movement.Back p c dest to n h = sym (ap (λ (k : Option ℕ). elim k as (λ (_ : Option ℕ). List Operation) [ Some n ↦ operand_code p to ++ here s (Offset dest (operand_slot p to) (step_bytes true (size s (pointee t)) n)) | None ↦ pair_code 1 p c to ++ here s (Advance true (size s (pointee t)) dest (first_slot p c to) (operand_slot c (to + 1))) ]) h)
 
-pub converted_points : (s : Spot) (from into : Ty) (c : Coded) (lasting : Bool) (to : ℕ) → stays from into ≡ false
-    → (converted_coded s from into c).pointer lasting to ≡ changed_value s from into c to to
-converted_points s (Integer k) (Integer j) c lasting to h = other_of (λ (x : Coded). x.pointer lasting to) (keeps_bits k j) c _ _ h (either_way lasting _)
-converted_points s (Integer k) _ c lasting to h = absurd (true≢false h)
-converted_points s (Tuple' l ts) (Tuple' m us) c lasting to h = other_of (λ (x : Coded). x.pointer lasting to) (all_stay ts us) c _ _ h (either_way lasting _)
-converted_points s (Tuple' l ts) _ c lasting to h = absurd (true≢false h)
-converted_points s _ _ c lasting to h = absurd (true≢false h)
+-- the operations of both, where it is not
+abbrev pub moves_code : Spot → Ty → Movement → (pointer count : Coded) → (dest to : ℕ) → List Operation
+moves_code s t movement.Forward p c dest to = pair_code 1 p c to ++ here s (Advance false (size s (pointee t)) dest (first_slot p c to) (operand_slot c (to + 1)))
+moves_code s t movement.CountFirst p c dest to = pair_code 1 c p to ++ here s (Advance false (size s (pointee t)) dest (operand_slot p (to + 1)) (first_slot c p to))
+moves_code s t movement.Back p c dest to = pair_code 1 p c to ++ here s (Advance true (size s (pointee t)) dest (first_slot p c to) (operand_slot c (to + 1)))
+
+pub moves_unknown : (s : Spot) (t : Ty) (how : Movement) (p c : Coded) (dest to : ℕ) → c.known ≡ None → moves_code s t how p c dest to ≡ (movement_coded s t how p c).value dest to
+moves_unknown s t movement.Forward p c dest to h = sym (ap (λ (k : Option ℕ). elim k as (λ (_ : Option ℕ). List Operation) [ Some n ↦ operand_code p to ++ here s (Offset dest (operand_slot p to) (step_bytes false (size s (pointee t)) n)) | None ↦ pair_code 1 p c to ++ here s (Advance false (size s (pointee t)) dest (first_slot p c to) (operand_slot c (to + 1))) ]) h)
+moves_unknown s t movement.CountFirst p c dest to h = sym (ap (λ (k : Option ℕ). elim k as (λ (_ : Option ℕ). List Operation) [ Some n ↦ operand_code p to ++ here s (Offset dest (operand_slot p to) (step_bytes false (size s (pointee t)) n)) | None ↦ pair_code 1 c p to ++ here s (Advance false (size s (pointee t)) dest (operand_slot p (to + 1)) (first_slot c p to)) ]) h)
+moves_unknown s t movement.Back p c dest to h = sym (ap (λ (k : Option ℕ). elim k as (λ (_ : Option ℕ). List Operation) [ Some n ↦ operand_code p to ++ here s (Offset dest (operand_slot p to) (step_bytes true (size s (pointee t)) n)) | None ↦ pair_code 1 p c to ++ here s (Advance true (size s (pointee t)) dest (first_slot p c to) (operand_slot c (to + 1))) ]) h)
+
+-- ---- the same by what was found
+
+pub known_by : (s : Spot) (t : Ty) (how : Movement) (p c : Coded) (dest to n bytes : ℕ) (back : Bool) → back ≡ is_back how → bytes ≡ size s (pointee t) → c.known ≡ Some n
+    → operand_code p to ++ here s (Offset dest (operand_slot p to) (step_bytes back bytes n)) ≡ (movement_coded s t how p c).value dest to
+known_by s t how p c dest to n bytes back b w h = rw (b, w) (moves_known s t how p c dest to n h)
+
+pub unknown_by : (s : Spot) (t : Ty) (how arm : Movement) (p c : Coded) (dest to : ℕ) → how ≡ arm → c.known ≡ None
+    → moves_code s t arm p c dest to ≡ (movement_coded s t how p c).value dest to
+unknown_by s t how arm p c dest to is h = ap (λ (m : Movement). moves_code s t m p c dest to) (sym is) ∙ moves_unknown s t how p c dest to h
+
+pub forward_by : (s : Spot) (t : Ty) (how : Movement) (p c : Coded) (dest to bytes : ℕ) → bytes ≡ size s (pointee t) → how ≡ movement.Forward → c.known ≡ None
+    → pair_code 1 p c to ++ here s (Advance false bytes dest (first_slot p c to) (operand_slot c (to + 1))) ≡ (movement_coded s t how p c).value dest to
+forward_by s t how p c dest to bytes w is h = rw w (unknown_by s t how movement.Forward p c dest to is h)
+
+pub counted_by : (s : Spot) (t : Ty) (how : Movement) (p c : Coded) (dest to bytes : ℕ) → bytes ≡ size s (pointee t) → how ≡ movement.CountFirst → c.known ≡ None
+    → pair_code 1 c p to ++ here s (Advance false bytes dest (operand_slot p (to + 1)) (first_slot c p to)) ≡ (movement_coded s t how p c).value dest to
+counted_by s t how p c dest to bytes w is h = rw w (unknown_by s t how movement.CountFirst p c dest to is h)
+
+pub back_by : (s : Spot) (t : Ty) (how : Movement) (p c : Coded) (dest to bytes : ℕ) → bytes ≡ size s (pointee t) → how ≡ movement.Back → c.known ≡ None
+    → pair_code 1 p c to ++ here s (Advance true bytes dest (first_slot p c to) (operand_slot c (to + 1))) ≡ (movement_coded s t how p c).value dest to
+back_by s t how p c dest to bytes w is h = rw w (unknown_by s t how movement.Back p c dest to is h)

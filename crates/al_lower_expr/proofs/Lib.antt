@@ -3,5 +3,5 @@ pub mod EveryForm
 pub mod General
 pub mod InTurn
 pub mod Made
-pub mod Printed
 pub mod Targets
+pub mod Wanted

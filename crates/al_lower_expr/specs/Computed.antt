@@ -1,21 +1,18 @@
 -- The operations of those forms of expressions whose type plays no part in them, from those of their parts.
-use Rattle.std.specs.Prelude.{ℕ, ◌+◌, Bool, true, false, not, if◌then◌else◌, List, [], ◌∷◌, ◌++◌, length, Some, None}
+use Rattle.std.specs.Prelude.{ℕ, ◌+◌, false, not, if◌then◌else◌, List, [], ◌∷◌, ◌++◌, length}
 use Rattle.al_base.specs.declared.arith.Kind.{Kind}
-use Rattle.al_typed.specs.declared.ty.Ty.{Ty, Integer}
+use Rattle.al_typed.specs.declared.ty.Ty.{Ty}
 use Rattle.al_typed.specs.declared.expression.BinaryOp.{BinaryOp}
 use Rattle.al_typed.specs.declared.expression.Logic.{Logic}
 use Rattle.al_typed.specs.declared.expression.Logic.TheVariants as logic
 use Rattle.al_ir.specs.declared.ir.Operation.{Operation}
-use Rattle.al_ir.specs.declared.op.Op.TheVariants.{Constant, Offset, Advance, Between, Skip}
+use Rattle.al_ir.specs.declared.op.Op.TheVariants.{Constant, Advance, Skip}
 use Rattle.al_lower_code.specs.Homes.{Spot, words, operation, here}
 use Rattle.al_lower_code.specs.Moving.{settles, settled}
-use Rattle.al_lower_code.specs.Operators.{convert_code, step_bytes}
+use Rattle.al_lower_code.specs.Operators.{convert_code}
 use Rattle.al_lower_code.specs.Coded.{Coded, operand_slot, operand_code, first_slot}
 use Rattle.al_lower_code.specs.Values.{pair_code, skip_unless, truth_of}
-
-abbrev pub is_integer : Ty → Bool
-is_integer (Integer k) = true
-is_integer _ = false
+use Rattle.al_lower_forms.specs.Pieces.{is_integer}
 
 -- a comparison of words as a condition
 abbrev pub compare_unless : Spot → BinaryOp → Kind → (words : ℕ) → (left right : Coded) → (to count : ℕ) → List Operation
@@ -35,17 +32,6 @@ abbrev pub logical_unless : Spot → Logic → (left right : Coded) → (to coun
 logical_unless s logic.And left right to count = left.unless to (length (right.unless to count) + count) ++ right.unless to count
 logical_unless s logic.Or left right to count =
     left.unless to 1 ++ operation s.line (Skip (length (right.unless to count))) ∷ right.unless to count
-
--- a pointer that moves by a count of elements of so many bytes
-abbrev pub advance_value : Spot → (back : Bool) → (size : ℕ) → (pointer count : Coded) → (dest to : ℕ) → List Operation
-advance_value s back size pointer count dest to = elim count.known [ Some n ↦ operand_code pointer to ++ here s (Offset dest (operand_slot pointer to) (step_bytes back size n)) | None ↦ pair_code 1 pointer count to ++ here s (Advance back size dest (first_slot pointer count to) (operand_slot count (to + 1))) ]
-
-abbrev pub count_first_value : Spot → (size : ℕ) → (pointer count : Coded) → (dest to : ℕ) → List Operation
-count_first_value s size pointer count dest to = elim count.known [ Some n ↦ operand_code pointer to ++ here s (Offset dest (operand_slot pointer to) (step_bytes false size n)) | None ↦ pair_code 1 count pointer to ++ here s (Advance false size dest (operand_slot pointer (to + 1)) (first_slot count pointer to)) ]
-
-abbrev pub difference_value : Spot → (size : ℕ) → (left right : Coded) → (dest to : ℕ) → List Operation
-difference_value s size left right dest to =
-    pair_code 1 left right to ++ here s (Between size dest (first_slot left right to) (operand_slot right (to + 1)))
 
 -- an integer as one with other bits, or a tuple of such parts, which stands apart from the new one
 abbrev pub changed_value : Spot → (from into : Ty) → Coded → (dest to : ℕ) → List Operation

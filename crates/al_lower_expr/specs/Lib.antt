@@ -1,4 +1,3 @@
 pub mod Computed
 pub mod Members
-pub mod Pieces
 pub mod Stored

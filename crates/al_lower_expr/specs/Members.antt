@@ -1,22 +1,13 @@
--- Members of values, and of objects before the names of functions.
-use Rattle.std.specs.Prelude.{ℕ, ◌+◌, List, ◌++◌}
+-- Objects before the names of functions.
+use Rattle.std.specs.Prelude.{ℕ, List}
 use Rattle.al_typed.specs.declared.ty.Ty.{Ty}
 use Rattle.al_typed.specs.declared.expression.Passed.{Passed}
-use Rattle.al_typed.specs.Layout.{member}
 use Rattle.al_meaning.specs.Here.{pointee, member_type}
 use Rattle.al_meaning.specs.Places.{path_offset}
-use Rattle.al_meaning.specs.Words.{member_units}
-use Rattle.al_ir.specs.declared.ir.Operation.{Operation}
-use Rattle.al_lower_code.specs.Homes.{Spot, units}
-use Rattle.al_lower_code.specs.Moving.{extracts}
+use Rattle.al_lower_code.specs.Homes.{Spot}
 use Rattle.al_lower_code.specs.Coded.{Coded, Placed, Given}
 use Rattle.al_lower_code.specs.Values.{pointed_placed, member_placed}
 use Rattle.al_lower_code.specs.Actions.{object_at, object_in}
-
--- the whole value comes to stand behind so many words
-abbrev pub takes_member : Spot → (words : ℕ) → (whole : Ty) → (path : List ℕ) → Coded → (dest to : ℕ) → List Operation
-takes_member s n whole path c dest to =
-    c.value (to + n) (to + n) ++ extracts s.line dest (to + n) (units s whole) (member_units s.program.aggregates (member s.program.aggregates path whole))
 
 -- an object at a place of a type, behind a pointer of a type, or in a value of a type
 abbrev pub object_placed : Spot → Passed → (whole : Ty) → (path : List ℕ) → Placed → Given

@@ -1,36 +1,22 @@
 //! The operations of every expression and place, from those of their parts.
 ghost use Rattle.std.specs.Prelude.{◌≡◌, ◌+◌, ◌++◌, if◌then◌else◌, IfOk, OnOk};
 ghost use Rattle.al_typed.specs.Layout.{IsLaidOut};
-ghost use Rattle.al_typed.specs.Typed.{type_of};
 ghost use Rattle.al_lower_code.specs.Coded.{operand_code, operand_slot, first_code, first_slot};
-ghost use Rattle.al_lower_code.specs.Homes as homes;
-ghost use Rattle.al_lower_code.specs.Operators as operators;
 ghost use Rattle.al_lower_code.specs.Expressions as spec;
-ghost use Rattle.al_lower_code.specs.Values as values;
 ghost use Rattle.al_lower_operands.specs.Rows as rows;
 ghost use Rattle.al_lower_base.specs.Spots.{spot_of};
 
-use crate::actions::{
-    assign_effect, assign_value, step_effect, step_value, update_effect, update_value,
-    zerox_effect, zerox_value,
-};
-use crate::calls::{
-    call_effect, call_pointer_effect, call_pointer_value, call_value, can_receive_value,
-    can_send_value, print_value, receive_value, send_value, terminate_value,
-};
-use crate::conversions::{converted_effect, converted_pointer, converted_unless, converted_value};
+use crate::actions::{assigns, stepped, update};
+use crate::calls::{call, call_pointer, print_value};
 use crate::forms::{
-    address_value, difference_value, element, load_value, member_of_value, move_value,
-    sequence_effect, sequence_value, tuple_value,
+    changed_value, element, found, joined, move_value, sequence_effect, sequence_value, taken,
+    tuple_value, used,
 };
-use crate::operators::{
-    binary_value, compare_unless, logical_unless, logical_value, not_unless, not_value,
-    unary_effect, unary_pointer, unary_unless, unary_value,
-};
-use crate::pieces::compares_words;
+use crate::operators::{binary_value, logical_unless, logical_value, unary_value};
 use al_base::NoMemory;
-use al_lower_base::{Code, Spot, skip_if_zero, slot_behind, words};
-use al_lower_operands::{folded, keeps, stands};
+use al_lower_base::{Code, Spot, slot_behind, words};
+use al_lower_forms::{Find, Form, Join, Step, Take, Use, compares_words, form_of};
+use al_lower_operands::{keeps, stands};
 use al_lower_parts::{constant, global, skips_known, turn};
 use al_typed::{TExpr, TPlace};
 
@@ -40,14 +26,15 @@ pub fn value(code: &mut Code, s: Spot<'_>, e: &TExpr, dest: u32, to: u32) -> Res
     requires { IsLaidOut s.program.now.aggregates }
     ensures { OnOk result (code.new ≡ code.old ++ (spec.coded (spot_of s.entry) e.now).value dest to) }
 {
-    match folded(s, e)? {
-        Some(bits) => constant(code, s, e.ty(), bits, dest),
-        None => match e {
-            TExpr::Load { ty, place } => load_value(code, s, ty, place.get(), dest, to),
-            TExpr::Decay { place, .. } => address_value(code, s, place.get(), dest, to),
-            TExpr::Address { place, .. } => address_value(code, s, place.get(), dest, to),
+    match form_of(s, e)? {
+        Form::Folded(bits) => constant(code, s, e.ty(), bits, dest),
+        Form::Part(of) => value(code, s, of, dest, to),
+        Form::Open => match e {
+            TExpr::Load { ty, place } => found(code, s, place.get(), Find::Read(ty), dest, to),
+            TExpr::Decay { place, .. } => found(code, s, place.get(), Find::Address, dest, to),
+            TExpr::Address { place, .. } => found(code, s, place.get(), Find::Address, dest, to),
             TExpr::Unary { ty, op, of } => unary_value(code, s, ty, *op, of.get(), dest, to),
-            TExpr::Not { of, .. } => not_value(code, s, of.get(), dest, to),
+            TExpr::Not { of, .. } => used(code, s, of.get(), Use::Negate, dest, to),
             TExpr::Binary {
                 op,
                 kind,
@@ -68,50 +55,69 @@ pub fn value(code: &mut Code, s: Spot<'_>, e: &TExpr, dest: u32, to: u32) -> Res
                 count,
             } => move_value(code, s, ty, *movement, pointer.get(), count.get(), dest, to),
             TExpr::Difference { left, right, .. } => {
-                difference_value(code, s, left.get(), right.get(), dest, to)
+                joined(code, s, left.get(), right.get(), Join::Between, dest, to)
             }
             TExpr::Assign { ty, target, value } => {
-                assign_value(code, s, ty, target.get(), value.get(), dest, to)
+                assigns(code, s, ty, target.get(), value.get(), Some(dest), to)
             }
             TExpr::Update {
                 ty,
                 place,
                 change,
                 value,
-            } => update_value(code, s, ty, place.get(), *change, value.get(), dest, to),
-            TExpr::Step { ty, op, place } => step_value(code, s, ty, *op, place.get(), dest, to),
-            TExpr::Zerox { ty, place } => zerox_value(code, s, ty, place.get(), dest, to),
+            } => update(
+                code,
+                s,
+                ty,
+                place.get(),
+                *change,
+                value.get(),
+                Some(dest),
+                to,
+            ),
+            TExpr::Step { ty, op, place } => {
+                stepped(code, s, ty, Step::By(*op), place.get(), Some(dest), to)
+            }
+            TExpr::Zerox { ty, place } => {
+                stepped(code, s, ty, Step::Clear, place.get(), Some(dest), to)
+            }
             TExpr::Tuple { ty, parts } => tuple_value(code, s, ty, parts.as_slice(), dest, to),
             TExpr::Call {
                 ty,
                 function,
                 receiver,
                 arguments,
-            } => call_value(code, s, *function, receiver, arguments, ty, dest, to),
+            } => call(code, s, *function, receiver, arguments, ty, Some(dest), to),
             TExpr::CallPointer {
                 ty,
                 pointer,
                 arguments,
-            } => call_pointer_value(code, s, ty, pointer.get(), arguments, dest, to),
+            } => call_pointer(code, s, ty, pointer.get(), arguments, Some(dest), to),
             TExpr::Print {
                 ty,
                 format,
                 arguments,
             } => print_value(code, s, ty, format, arguments, dest, to),
-            TExpr::Terminate { ty, status } => {
-                terminate_value(code, s, ty, status.get(), dest, to)
+            TExpr::Terminate { status, .. } => used(
+                code,
+                s,
+                status.get(),
+                Use::Terminate,
+                dest,
+                to,
+            ),
+            TExpr::Receive { ty, chan } => used(code, s, chan.get(), Use::Receive(ty), dest, to),
+            TExpr::Send { chan, value, .. } => {
+                joined(code, s, chan.get(), value.get(), Join::Send, dest, to)
             }
-            TExpr::Receive { ty, chan } => receive_value(code, s, ty, chan.get(), dest, to),
-            TExpr::Send { ty, chan, value } => {
-                send_value(code, s, ty, chan.get(), value.get(), dest, to)
-            }
-            TExpr::CanReceive { ty, chan } => can_receive_value(code, s, ty, chan.get(), dest, to),
-            TExpr::CanSend { ty, chan } => can_send_value(code, s, ty, chan.get(), dest, to),
+            TExpr::CanReceive { chan, .. } => used(code, s, chan.get(), Use::CanReceive, dest, to),
+            TExpr::CanSend { chan, .. } => used(code, s, chan.get(), Use::CanSend, dest, to),
             TExpr::MemberOf { ty, value, path } => {
-                member_of_value(code, s, ty, value.get(), path.as_slice(), dest, to)
+                let path = path.as_slice();
+                taken(code, s, value.get(), Take::Member { ty, path }, dest, to)
             }
             TExpr::Cast { ty, of } | TExpr::Convert { ty, of } => {
-                converted_value(code, s, ty, of.get(), dest, to)
+                changed_value(code, s, ty, of.get(), dest, to)
             }
             TExpr::Sequence { first, last, .. } => {
                 sequence_value(code, s, first.as_slice(), last.get(), dest, to)
@@ -134,35 +140,34 @@ pub fn effect(code: &mut Code, s: Spot<'_>, e: &TExpr, to: u32) -> Result<(), No
     requires { IsLaidOut s.program.now.aggregates }
     ensures { OnOk result (code.new ≡ code.old ++ (spec.coded (spot_of s.entry) e.now).effect to) }
 {
-    match folded(s, e)? {
-        Some(_) => Ok(()),
-        None => match e {
-            TExpr::Unary { ty, op, of } => unary_effect(code, s, ty, *op, of.get(), to),
-            TExpr::Cast { ty, of } | TExpr::Convert { ty, of } => {
-                converted_effect(code, s, ty, of.get(), to)
-            }
+    match form_of(s, e)? {
+        Form::Folded(_) => Ok(()),
+        Form::Part(of) => effect(code, s, of, to),
+        Form::Open => match e {
             TExpr::Assign { ty, target, value } => {
-                assign_effect(code, s, ty, target.get(), value.get(), to)
+                assigns(code, s, ty, target.get(), value.get(), None, to)
             }
             TExpr::Update {
                 ty,
                 place,
                 change,
                 value,
-            } => update_effect(code, s, ty, place.get(), *change, value.get(), to),
-            TExpr::Step { ty, op, place } => step_effect(code, s, ty, *op, place.get(), to),
-            TExpr::Zerox { ty, place } => zerox_effect(code, s, ty, place.get(), to),
+            } => update(code, s, ty, place.get(), *change, value.get(), None, to),
+            TExpr::Step { ty, op, place } => {
+                stepped(code, s, ty, Step::By(*op), place.get(), None, to)
+            }
+            TExpr::Zerox { ty, place } => stepped(code, s, ty, Step::Clear, place.get(), None, to),
             TExpr::Call {
                 ty,
                 function,
                 receiver,
                 arguments,
-            } => call_effect(code, s, *function, receiver, arguments, ty, to),
+            } => call(code, s, *function, receiver, arguments, ty, None, to),
             TExpr::CallPointer {
                 ty,
                 pointer,
                 arguments,
-            } => call_pointer_effect(code, s, ty, pointer.get(), arguments, to),
+            } => call_pointer(code, s, ty, pointer.get(), arguments, None, to),
             TExpr::Sequence { first, last, .. } => {
                 sequence_effect(code, s, first.as_slice(), last.get(), to)
             }
@@ -187,14 +192,11 @@ pub fn unless(code: &mut Code, s: Spot<'_>, e: &TExpr, to: u32, count: u32) -> R
     requires { IsLaidOut s.program.now.aggregates }
     ensures { OnOk result (code.new ≡ code.old ++ (spec.coded (spot_of s.entry) e.now).unless to count) }
 {
-    match folded(s, e)? {
-        Some(bits) => skips_known(code, s, bits, count),
-        None => match e {
-            TExpr::Unary { ty, op, of } => unary_unless(code, s, ty, *op, of.get(), to, count),
-            TExpr::Cast { ty, of } | TExpr::Convert { ty, of } => {
-                converted_unless(code, s, ty, of.get(), to, count)
-            }
-            TExpr::Not { of, .. } => not_unless(code, s, of.get(), to, count),
+    match form_of(s, e)? {
+        Form::Folded(bits) => skips_known(code, s, bits, count),
+        Form::Part(of) => unless(code, s, of, to, count),
+        Form::Open => match e {
+            TExpr::Not { of, .. } => used(code, s, of.get(), Use::SkipIfSet { count }, to, to),
             TExpr::Binary {
                 op,
                 kind,
@@ -203,9 +205,14 @@ pub fn unless(code: &mut Code, s: Spot<'_>, e: &TExpr, to: u32, count: u32) -> R
                 ..
             } => {
                 if compares_words(*op, *kind) {
-                    compare_unless(code, s, *op, *kind, left.get(), right.get(), to, count)
+                    let how = Join::SkipUnless {
+                        op: *op,
+                        kind: *kind,
+                        count,
+                    };
+                    joined(code, s, left.get(), right.get(), how, to, to)
                 } else {
-                    value_unless(code, s, e, to, count)
+                    used(code, s, e, Use::SkipIfZero { count }, to, to)
                 }
             }
             TExpr::Logical {
@@ -214,26 +221,9 @@ pub fn unless(code: &mut Code, s: Spot<'_>, e: &TExpr, to: u32, count: u32) -> R
                 right,
                 ..
             } => logical_unless(code, s, *op, left.get(), right.get(), to, count),
-            _ => value_unless(code, s, e, to, count),
+            _ => used(code, s, e, Use::SkipIfZero { count }, to, to),
         },
     }
-}
-
-/// A value that is 0 where the condition does not hold.
-#[cycle(expr)]
-fn value_unless(
-    code: &mut Code,
-    s: Spot<'_>,
-    e: &TExpr,
-    to: u32,
-    count: u32,
-) -> Result<(), NoMemory>
-    requires { IsLaidOut s.program.now.aggregates }
-    ensures { OnOk result (code.new ≡ code.old ++ (operand_code (spec.coded (spot_of s.entry) e.now) to ++ operators.skip_if_zero (spot_of s.entry) (homes.words (spot_of s.entry) (type_of e.now)) (operand_slot (spec.coded (spot_of s.entry) e.now) to) to count)) }
-{
-    let n = words(s, e.ty())?;
-    let slot = operand(code, s, e, to)?;
-    skip_if_zero(code, s, n, slot, to, count)
 }
 
 /// The value of an expression that is used as an address at once, or later. `leads` of al_lower_operands says where it leads then.
@@ -248,15 +238,12 @@ pub fn pointer(
     requires { IsLaidOut s.program.now.aggregates }
     ensures { OnOk result (code.new ≡ code.old ++ (spec.coded (spot_of s.entry) e.now).pointer lasting to) }
 {
-    match folded(s, e)? {
-        Some(_) => value(code, s, e, to, to),
-        None => match e {
+    match form_of(s, e)? {
+        Form::Folded(_) => value(code, s, e, to, to),
+        Form::Part(of) => pointer(code, s, of, lasting, to),
+        Form::Open => match e {
             TExpr::Decay { place: at, .. } => place(code, s, at.get(), lasting, to),
             TExpr::Address { place: at, .. } => place(code, s, at.get(), lasting, to),
-            TExpr::Unary { ty, op, of } => unary_pointer(code, s, ty, *op, of.get(), lasting, to),
-            TExpr::Cast { ty, of } | TExpr::Convert { ty, of } => {
-                converted_pointer(code, s, ty, of.get(), lasting, to)
-            }
             _ => value_pointer(code, s, e, lasting, to),
         },
     }
@@ -299,7 +286,13 @@ pub fn operand(code: &mut Code, s: Spot<'_>, e: &TExpr, to: u32) -> Result<u32, 
 
 /// The same of a value that is used when the next one has been found.
 #[cycle(expr)]
-fn first(code: &mut Code, s: Spot<'_>, e: &TExpr, next: &TExpr, to: u32) -> Result<u32, NoMemory>
+pub fn first(
+    code: &mut Code,
+    s: Spot<'_>,
+    e: &TExpr,
+    next: &TExpr,
+    to: u32,
+) -> Result<u32, NoMemory>
     requires { IsLaidOut s.program.now.aggregates }
     ensures code { OnOk result (code.new ≡ code.old ++ first_code (spec.coded (spot_of s.entry) e.now) (spec.coded (spot_of s.entry) next.now) to) }
     ensures slot { IfOk result (λ slot. slot ≡ first_slot (spec.coded (spot_of s.entry) e.now) (spec.coded (spot_of s.entry) next.now) to) }
@@ -310,37 +303,6 @@ fn first(code: &mut Code, s: Spot<'_>, e: &TExpr, next: &TExpr, to: u32) -> Resu
         value(code, s, e, to, to)?;
         Ok(to)
     }
-}
-
-/// The slots from which on two values stand.
-#[derive(Clone, Copy)]
-pub struct TwoSlots {
-    pub left: u32,
-    pub right: u32,
-}
-
-/// Two values, the first of so many words.
-#[cycle(expr)]
-pub fn pair(
-    code: &mut Code,
-    s: Spot<'_>,
-    words: u32,
-    left: &TExpr,
-    right: &TExpr,
-    to: u32,
-) -> Result<TwoSlots, NoMemory>
-    requires { IsLaidOut s.program.now.aggregates }
-    ensures code { OnOk result (code.new ≡ code.old ++ values.pair_code words (spec.coded (spot_of s.entry) left.now) (spec.coded (spot_of s.entry) right.now) to) }
-    ensures left { IfOk result (λ p. p.left ≡ first_slot (spec.coded (spot_of s.entry) left.now) (spec.coded (spot_of s.entry) right.now) to) }
-    ensures right { IfOk result (λ p. p.right ≡ operand_slot (spec.coded (spot_of s.entry) right.now) (to + words)) }
-{
-    let behind = slot_behind(to, words)?;
-    let one = first(code, s, left, right, to)?;
-    let other = operand(code, s, right, behind)?;
-    Ok(TwoSlots {
-        left: one,
-        right: other,
-    })
 }
 
 /// A place is found, which is used at once, or later. `place_at` of al_lower_operands says where it is then.

@@ -1,138 +1,124 @@
-//! Values and addresses of places, pointers that move, and values that are put together of others.
-ghost use Rattle.std.specs.Prelude.{◌≡◌, ◌+◌, ◌++◌, false, OnOk};
+//! Values and places that are found and used, and values that are put together of others.
+ghost use Rattle.std.specs.Prelude.{◌≡◌, ◌+◌, ◌++◌, OnOk};
 ghost use Rattle.al_typed.specs.Layout.{IsLaidOut};
-ghost use Rattle.al_typed.specs.Typed.{type_of};
-ghost use Rattle.al_meaning.specs.Here as here;
+ghost use Rattle.al_typed.specs.Typed.{type_of, place_type};
+ghost use Rattle.al_lower_code.specs.Coded.{operand_code, operand_slot};
 ghost use Rattle.al_lower_code.specs.Homes as homes;
-ghost use Rattle.al_lower_code.specs.Moving as moving;
 ghost use Rattle.al_lower_code.specs.Expressions as spec;
 ghost use Rattle.al_lower_code.specs.Values as values;
+ghost use Rattle.al_lower_forms.specs.Finds as finds;
+ghost use Rattle.al_lower_forms.specs.Joins as joins;
+ghost use Rattle.al_lower_forms.specs.Takes as takes;
+ghost use Rattle.al_lower_forms.specs.Uses as uses;
 ghost use Rattle.al_lower_operands.specs.Rows as rows;
 ghost use Rattle.al_lower_expr.specs.Computed as computed;
 ghost use Rattle.al_lower_base.specs.Spots.{spot_of};
 
-use crate::calls::member_value;
-use crate::expr::{effect, operand, pair, place, pointer, row_effects, row_values, value};
-use crate::pieces::offset;
+use crate::expr::{effect, first, operand, place, pointer, row_effects, row_values, value};
 use al_base::NoMemory;
-use al_ir::Op;
-use al_lower_base::{
-    Code, Spot, address, bytes, moves, push, read, settle, settled, slot_behind, words,
+use al_lower_base::{Code, Spot, bytes, moves, slot_behind, words};
+use al_lower_forms::{
+    Find, Join, Take, Use, advance, base_slot, first_words, free_for, is_back, is_integer,
+    join_values, take_part, use_place, use_value, whole_at,
 };
-use al_lower_operands::{keeps, known, leads, place_at};
+use al_lower_operands::{keeps, known};
 use al_lower_parts::pointee_bytes;
 use al_typed::{Movement, TExpr, TPlace, Ty};
 
-/// The value of a place.
+/// A value is found, and used at once.
 #[cycle(expr)]
-pub fn load_value(
+pub fn used(
     code: &mut Code,
     s: Spot<'_>,
-    ty: &Ty,
-    p: &TPlace,
+    e: &TExpr,
+    how: Use<'_>,
     dest: u32,
     to: u32,
 ) -> Result<(), NoMemory>
     requires { IsLaidOut s.program.now.aggregates }
-    ensures { OnOk result (code.new ≡ code.old ++ (values.load_coded (spot_of s.entry) ty.now (spec.placed (spot_of s.entry) p.now)).value dest to) }
+    ensures { OnOk result (code.new ≡ code.old ++ (operand_code (spec.coded (spot_of s.entry) e.now) to ++ uses.use_code (spot_of s.entry) (type_of e.now) how.entry (operand_slot (spec.coded (spot_of s.entry) e.now) to) dest to)) }
 {
-    let free = slot_behind(to, words(s, ty)?)?;
-    place(code, s, p, false, free)?;
-    let at = place_at(s, p, false, free)?;
-    read(code, s, ty, at, dest)
+    let slot = operand(code, s, e, to)?;
+    use_value(code, s, e.ty(), how, slot, dest, to)
 }
 
-/// The address of a place.
+/// Two values are found, and joined.
 #[cycle(expr)]
-pub fn address_value(
+pub fn joined(
     code: &mut Code,
     s: Spot<'_>,
-    p: &TPlace,
+    left: &TExpr,
+    right: &TExpr,
+    how: Join,
     dest: u32,
     to: u32,
 ) -> Result<(), NoMemory>
     requires { IsLaidOut s.program.now.aggregates }
-    ensures { OnOk result (code.new ≡ code.old ++ ((spec.placed (spot_of s.entry) p.now).code false to ++ moving.address_code (spot_of s.entry) ((spec.placed (spot_of s.entry) p.now).at false to) dest)) }
+    ensures { OnOk result (code.new ≡ code.old ++ joins.joined_code (spot_of s.entry) (type_of left.now) (type_of right.now) how (spec.coded (spot_of s.entry) left.now) (spec.coded (spot_of s.entry) right.now) dest to) }
 {
-    place(code, s, p, false, to)?;
-    let at = place_at(s, p, false, to)?;
-    address(code, s, at, dest)
+    let behind = slot_behind(to, first_words(s, left.ty(), how)?)?;
+    let one = first(code, s, left, right, to)?;
+    let other = operand(code, s, right, behind)?;
+    join_values(code, s, left.ty(), right.ty(), how, one, other, dest, to)
 }
 
-/// A pointer that moves by a count of elements, back or forward.
+/// A whole value is found behind what is taken of it.
 #[cycle(expr)]
-fn advance_value(
+pub fn taken(
     code: &mut Code,
     s: Spot<'_>,
-    back: bool,
-    size: u32,
-    pointer: &TExpr,
-    count: &TExpr,
+    e: &TExpr,
+    what: Take<'_>,
     dest: u32,
     to: u32,
 ) -> Result<(), NoMemory>
     requires { IsLaidOut s.program.now.aggregates }
-    ensures { OnOk result (code.new ≡ code.old ++ computed.advance_value (spot_of s.entry) back size (spec.coded (spot_of s.entry) pointer.now) (spec.coded (spot_of s.entry) count.now) dest to) }
+    ensures { OnOk result (code.new ≡ code.old ++ takes.taken_code (spot_of s.entry) (type_of e.now) what.entry (spec.coded (spot_of s.entry) e.now) dest to) }
 {
-    match known(s, count)? {
-        Some(n) => {
-            let slot = operand(code, s, pointer, to)?;
-            offset(code, s, back, size, n, dest, slot)
-        }
-        None => {
-            let slots = pair(code, s, 1, pointer, count, to)?;
-            push(
-                code,
-                s.line,
-                Op::Advance {
-                    back,
-                    size,
-                    to: dest,
-                    pointer: slots.left,
-                    count: slots.right,
-                },
-            )
-        }
+    let whole = whole_at(s, e.ty(), what, to)?;
+    value(code, s, e, whole, whole)?;
+    take_part(code, s, e.ty(), what, dest, whole)
+}
+
+/// A place is found, and used at once.
+#[cycle(expr)]
+pub fn found(
+    code: &mut Code,
+    s: Spot<'_>,
+    x: &TPlace,
+    what: Find<'_>,
+    dest: u32,
+    to: u32,
+) -> Result<(), NoMemory>
+    requires { IsLaidOut s.program.now.aggregates }
+    ensures { OnOk result (code.new ≡ code.old ++ finds.found_code (spot_of s.entry) (place_type x.now) what.entry (spec.placed (spot_of s.entry) x.now) dest to) }
+{
+    let free = free_for(s, x.ty(), what, to)?;
+    place(code, s, x, false, free)?;
+    use_place(code, s, x, what, free, dest)
+}
+
+/// An integer that changes its bits, or a tuple with such parts, as a value of another type.
+#[cycle(expr)]
+pub fn changed_value(
+    code: &mut Code,
+    s: Spot<'_>,
+    into: &Ty,
+    of: &TExpr,
+    dest: u32,
+    to: u32,
+) -> Result<(), NoMemory>
+    requires { IsLaidOut s.program.now.aggregates }
+    ensures { OnOk result (code.new ≡ code.old ++ computed.changed_value (spot_of s.entry) (type_of of.now) into.now (spec.coded (spot_of s.entry) of.now) dest to) }
+{
+    if is_integer(into) {
+        used(code, s, of, Use::Convert(into), dest, to)
+    } else {
+        taken(code, s, of, Take::Converted(into), dest, to)
     }
 }
 
-/// The same forward, where the count is found first.
-#[cycle(expr)]
-fn count_first_value(
-    code: &mut Code,
-    s: Spot<'_>,
-    size: u32,
-    pointer: &TExpr,
-    count: &TExpr,
-    dest: u32,
-    to: u32,
-) -> Result<(), NoMemory>
-    requires { IsLaidOut s.program.now.aggregates }
-    ensures { OnOk result (code.new ≡ code.old ++ computed.count_first_value (spot_of s.entry) size (spec.coded (spot_of s.entry) pointer.now) (spec.coded (spot_of s.entry) count.now) dest to) }
-{
-    match known(s, count)? {
-        Some(n) => {
-            let slot = operand(code, s, pointer, to)?;
-            offset(code, s, false, size, n, dest, slot)
-        }
-        None => {
-            let slots = pair(code, s, 1, count, pointer, to)?;
-            push(
-                code,
-                s.line,
-                Op::Advance {
-                    back: false,
-                    size,
-                    to: dest,
-                    pointer: slots.right,
-                    count: slots.left,
-                },
-            )
-        }
-    }
-}
-
-/// A pointer that moves.
+/// A pointer that moves by a count of elements.
 #[cycle(expr)]
 pub fn move_value(
     code: &mut Code,
@@ -148,56 +134,37 @@ pub fn move_value(
     ensures { OnOk result (code.new ≡ code.old ++ (values.movement_coded (spot_of s.entry) ty.now movement (spec.coded (spot_of s.entry) pointer.now) (spec.coded (spot_of s.entry) count.now)).value dest to) }
 {
     let size = pointee_bytes(s, ty)?;
-    match movement {
-        Movement::Forward => advance_value(code, s, false, size, pointer, count, dest, to),
-        Movement::CountFirst => count_first_value(code, s, size, pointer, count, dest, to),
-        Movement::Back => advance_value(code, s, true, size, pointer, count, dest, to),
-    }
-}
-
-/// How many elements there are between two pointers.
-#[cycle(expr)]
-pub fn difference_value(
-    code: &mut Code,
-    s: Spot<'_>,
-    left: &TExpr,
-    right: &TExpr,
-    dest: u32,
-    to: u32,
-) -> Result<(), NoMemory>
-    requires { IsLaidOut s.program.now.aggregates }
-    ensures { OnOk result (code.new ≡ code.old ++ computed.difference_value (spot_of s.entry) (homes.size (spot_of s.entry) (here.pointee (type_of left.now))) (spec.coded (spot_of s.entry) left.now) (spec.coded (spot_of s.entry) right.now) dest to) }
-{
-    let size = pointee_bytes(s, left.ty())?;
-    let slots = pair(code, s, 1, left, right, to)?;
-    push(
-        code,
-        s.line,
-        Op::Between {
-            size,
-            to: dest,
-            left: slots.left,
-            right: slots.right,
+    match known(s, count)? {
+        Some(n) => {
+            let how = Use::Offset {
+                back: is_back(movement),
+                size,
+                count: n,
+            };
+            used(code, s, pointer, how, dest, to)
+        }
+        None => match movement {
+            Movement::Forward => {
+                let how = Join::Advance { back: false, size };
+                joined(code, s, pointer, count, how, dest, to)
+            }
+            Movement::CountFirst => {
+                joined(
+                    code,
+                    s,
+                    count,
+                    pointer,
+                    Join::AdvanceCounted { size },
+                    dest,
+                    to,
+                )
+            }
+            Movement::Back => {
+                let how = Join::Advance { back: true, size };
+                joined(code, s, pointer, count, how, dest, to)
+            }
         },
-    )
-}
-
-/// A member of a value that a call or a receive gives.
-#[cycle(expr)]
-pub fn member_of_value(
-    code: &mut Code,
-    s: Spot<'_>,
-    ty: &Ty,
-    of: &TExpr,
-    path: &[u32],
-    dest: u32,
-    to: u32,
-) -> Result<(), NoMemory>
-    requires { IsLaidOut s.program.now.aggregates }
-    ensures { OnOk result (code.new ≡ code.old ++ (values.member_coded (spot_of s.entry) (type_of of.now) ty.now path.now (spec.coded (spot_of s.entry) of.now)).value dest to) }
-{
-    let n = words(s, ty)?;
-    member_value(code, s, n, of, path, dest, to)
+    }
 }
 
 /// The parts of a tuple, one behind the other.
@@ -265,20 +232,9 @@ fn indexed(
 {
     let lasting = !keeps(s, index)?;
     pointer(code, s, base, lasting, to)?;
-    let at = leads(s, base, lasting, to)?;
-    settle(code, s, at, to)?;
-    let slot = operand(code, s, index, slot_behind(to, 1)?)?;
-    push(
-        code,
-        s.line,
-        Op::Advance {
-            back: false,
-            size,
-            to,
-            pointer: settled(at, to),
-            count: slot,
-        },
-    )
+    let slot = base_slot(code, s, base, lasting, to)?;
+    let count = operand(code, s, index, slot_behind(to, 1)?)?;
+    advance(code, s, false, size, to, slot, count)
 }
 
 /// An element of a type.

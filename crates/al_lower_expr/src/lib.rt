@@ -3,14 +3,9 @@
 
 mod actions;
 mod calls;
-mod conversions;
 mod expr;
 mod forms;
-mod locals;
-mod objects;
 mod operators;
-mod pieces;
-mod printing;
 
 pub use actions::{initialize, target};
 pub use calls::{arguments, object};

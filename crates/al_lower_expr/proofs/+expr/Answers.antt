@@ -1,4 +1,4 @@
-use Rattle.std.proofs.Common.{◌≡◌, ℕ, List, ◌++◌, OnOk, sym, ap, ◌∙◌, subst, IfOk, arith, ap₂}
+use Rattle.std.proofs.Common.{◌≡◌, ℕ, false, List, ◌++◌, map, Some, OnOk, refl, sym, ap, ◌∙◌, subst, IfOk, arith, ap₂}
 use Rattle.std.proofs.lemmas.List.{append-nil}
 use Rattle.al_typed.specs.declared.ty.Ty.{Ty}
 use Rattle.al_typed.specs.declared.expression.TExpr.{TExpr}
@@ -11,60 +11,92 @@ use Rattle.al_meaning.specs.Here.{pointee}
 use Rattle.al_meaning.specs.Places.{path_offset}
 use Rattle.al_ir.specs.declared.ir.Operation.{Operation}
 use Rattle.al_lower_code.specs.Homes.{words, size}
-use Rattle.al_lower_code.specs.Moving.{constants, moves}
-use Rattle.al_lower_code.specs.Operators.{stays}
-use Rattle.al_lower_code.specs.Coded.{Coded, Placed, Aimed, Given}
+use Rattle.al_lower_code.specs.Moving.{constants}
+use Rattle.al_lower_code.specs.Coded.{Coded, Placed, Aimed, Given, operand_code}
 use Rattle.al_lower_code.specs.Values.{pointed_placed, member_placed, element_placed, load_coded, address_coded, negation_coded, binary_coded, logical_coded, movement_coded, difference_coded, tuple_coded, member_coded, sequence_coded}
 use Rattle.al_lower_code.specs.Classes.{class_number}
-use Rattle.al_lower_code.specs.Actions.{assign_coded, update_coded, stepped_coded, zerox_coded, call_pointer_coded, terminate_coded, receive_coded, send_coded, can_receive_coded, can_send_coded, single_aimed, change_code}
+use Rattle.al_lower_code.specs.Actions.{assign_coded, update_coded, stepped_coded, zerox_coded, call_pointer_coded, terminate_coded, receive_coded, send_coded, can_receive_coded, can_send_coded, single_aimed, pieces_code}
 use Rattle.al_lower_code.specs.Expressions.{coded, placed, aimed, received_object}
-use Rattle.al_lower_base.specs.Spots.{spot_of}
-use Rattle.al_lower_operands.specs.Rows.{row_of, aimed_of}
+use Rattle.al_lower_base.specs.Spots.{spot_of, where_of}
+use Rattle.al_lower_operands.specs.Rows.{row_of, aimed_of, object_of}
 use Rattle.al_lower_operands.proofs.ByForm.{by_form, by_constant, by_unary, by_conversion, not_folded}
 use Rattle.al_lower_operands.proofs.Folding.{folded-SizeofPlace, folded-SizeofValue, open-Not, open-Binary, open-Logical}
 use Rattle.al_lower_operands.proofs.Forms.{coded-Load, coded-Decay, coded-Address, coded-Move, coded-Difference, coded-Assign, coded-Update, coded-Step, coded-Zerox, coded-Terminate, coded-Receive, coded-Send, coded-CanReceive, coded-CanSend, coded-MemberOf, coded-Iterator, coded-Tuple, coded-CallPointer, coded-Print, coded-Sequence, coded-Call, placed-Global, placed-Pointed, placed-Element, placed-Member, placed-PointedMember, aimed-Into, aimed-Parts, received_object-Place, received_object-Value, received_object-Pointer}
-use Rattle.al_lower_operands.proofs.Plain.{converted_stays}
-use Rattle.al_lower_expr.proofs.Computing.{binary_values, binary_compares, logical_values, logical_decides, converted_changes, converted_drops, converted_decides, converted_points}
+use Rattle.al_lower_expr.proofs.Computing.{binary_values, binary_compares, logical_values, logical_decides, converted_changes, known_by, forward_by, counted_by, back_by}
 use Rattle.al_lower_expr.proofs.General.{drops_rest, decides_rest, points_rest, decides_pair, constant_points, some_none}
 use Rattle.al_lower_expr.proofs.Made.{by_part, by_parts, place_by_part, place_by_parts, place_by_form}
-use Rattle.al_typed.specs.declared.expression.Change.{Change}
+use Rattle.al_lower_forms.specs.Calls.{called_pointer}
+use Rattle.al_lower_forms.specs.Steps.{kept}
+use Rattle.al_lower_forms.specs.Updates.{change_by}
+use Rattle.al_lower_forms.proofs.ByConstants.{all_made, none_made, left_to_make}
+use Rattle.al_lower_forms.proofs.SameParts.{is_form, open_folded, open_same, changed}
+use Rattle.al_lower_forms.proofs.Stepping.{is_stepped, not_stepped}
 use Rattle.al_lower_expr.specs.Members.{object_placed, object_valued, object_pointed}
 use Rattle.al_lower_expr.specs.Stored.{value_slot}
-use Rattle.al_lower_expr.proofs.InTurn.{then_ok}
-use Rattle.al_lower_expr.proofs.Targets.{aims_more, aims_done, row_has_no_single, parts_assigned, parts_slot, assigned_value}
+use Rattle.al_lower_expr.proofs.InTurn.{then_ok, then_both, then_all, as_ok}
+use Rattle.al_lower_expr.proofs.Targets.{aims_more, aims_done, row_has_no_single, parts_assigned, parts_slot}
+use Rattle.al_lower_expr.proofs.Wanted.{assignment, update_by, placed_update_by, step_is, call_is, arguments_by, pointed_call_by, found_object}
 use Rattle.al_lower_expr.proofs.+expr.Goals as goal
 
-pub expr::value-returns-in-Some : goal.expr::value-returns-in-Some
-expr::value-returns-in-Some t c =
-    by_constant (λ (x : Coded). OnOk c.constant.result (c.constant.new.code ≡ c.args.code.now ++ x.value c.args.dest c.args.to)) (spot_of c.args.s) c.args.e.now _ _ c.in_ok-bits.ensures c.in-Some.is (subst (λ (t : Ty). OnOk c.constant.result (c.constant.new.code ≡ c.args.code.now ++ constants c.args.s.line c.args.dest (integer_words (kind_of t) c.in-Some.bits))) c.ty.ensures c.constant.ensures)
+pub expr::value-returns-in-Folded : goal.expr::value-returns-in-Folded
+expr::value-returns-in-Folded t c =
+    by_constant (λ (x : Coded). OnOk c.constant.result (c.constant.new.code ≡ c.args.code.now ++ x.value c.args.dest c.args.to)) (spot_of c.args.s) c.args.e.now (Some c.in-Folded.bits) _ (sym (is_form (spot_of c.args.s) c.args.e.now _ _ c.in_ok-bits.ensures.made c.in-Folded.is)) refl (subst (λ (t : Ty). OnOk c.constant.result (c.constant.new.code ≡ c.args.code.now ++ constants c.args.s.line c.args.dest (integer_words (kind_of t) c.in-Folded.bits))) c.ty.ensures c.constant.ensures)
+
+pub expr::value-returns-in-Part : goal.expr::value-returns-in-Part
+expr::value-returns-in-Part t c =
+    subst (λ (x : Coded). OnOk c.value.result (c.value.new.code ≡ c.args.code.now ++ x.value c.args.dest c.args.to)) (sym (is_form (spot_of c.args.s) c.args.e.now _ _ c.in_ok-bits.ensures.made c.in-Part.is)) c.value.ensures
+
+pub expr::effect-returns-in-Folded : goal.expr::effect-returns-in-Folded
+expr::effect-returns-in-Folded t c =
+    by_constant (λ (x : Coded). c.args.code.now ≡ c.args.code.now ++ x.effect c.args.to) (spot_of c.args.s) c.args.e.now _ _ (sym (is_form (spot_of c.args.s) c.args.e.now _ _ c.in_ok-form_of.ensures.made c.in-Folded.is)) refl (sym (append-nil c.args.code.now))
+
+pub expr::effect-returns-in-Part : goal.expr::effect-returns-in-Part
+expr::effect-returns-in-Part t c =
+    subst (λ (x : Coded). OnOk c.effect.result (c.effect.new.code ≡ c.args.code.now ++ x.effect c.args.to)) (sym (is_form (spot_of c.args.s) c.args.e.now _ _ c.in_ok-form_of.ensures.made c.in-Part.is)) c.effect.ensures
+
+pub expr::unless-returns-in-Folded : goal.expr::unless-returns-in-Folded
+expr::unless-returns-in-Folded t c =
+    by_constant (λ (x : Coded). OnOk c.skips_known.result (c.skips_known.new.code ≡ c.args.code.now ++ x.unless c.args.to c.args.count)) (spot_of c.args.s) c.args.e.now (Some c.in-Folded.bits) _ (sym (is_form (spot_of c.args.s) c.args.e.now _ _ c.in_ok-bits.ensures.made c.in-Folded.is)) refl c.skips_known.ensures
+
+pub expr::unless-returns-in-Part : goal.expr::unless-returns-in-Part
+expr::unless-returns-in-Part t c =
+    subst (λ (x : Coded). OnOk c.unless.result (c.unless.new.code ≡ c.args.code.now ++ x.unless c.args.to c.args.count)) (sym (is_form (spot_of c.args.s) c.args.e.now _ _ c.in_ok-bits.ensures.made c.in-Part.is)) c.unless.ensures
+
+pub expr::pointer-returns-in-Folded : goal.expr::pointer-returns-in-Folded
+expr::pointer-returns-in-Folded t c =
+    subst (λ (ops : List Operation). OnOk c.value.result (c.value.new.code ≡ c.args.code.now ++ ops)) (sym (constant_points (spot_of c.args.s) c.args.e.now _ c.args.lasting c.args.to (is_form (spot_of c.args.s) c.args.e.now _ _ c.in_ok-form_of.ensures.made c.in-Folded.is))) c.value.ensures
+
+pub expr::pointer-returns-in-Part : goal.expr::pointer-returns-in-Part
+expr::pointer-returns-in-Part t c =
+    subst (λ (x : Coded). OnOk c.pointer.result (c.pointer.new.code ≡ c.args.code.now ++ x.pointer c.args.lasting c.args.to)) (sym (is_form (spot_of c.args.s) c.args.e.now _ _ c.in_ok-form_of.ensures.made c.in-Part.is)) c.pointer.ensures
 
 pub expr::value-returns-in-Load : goal.expr::value-returns-in-Load
 expr::value-returns-in-Load t c =
-    by_part (λ (x : Coded). OnOk c.load_value.result (c.load_value.new.code ≡ c.args.code.now ++ x.value c.args.dest c.args.to)) (spot_of c.args.s) c.args.e.now _ (λ (x : TPlace). load_coded (spot_of c.args.s) c.in-Load.ty (placed (spot_of c.args.s) x)) _ _ c.in-Load.is (coded-Load (spot_of c.args.s) c.in-Load.ty c.in-Load.place) c.get.ensures c.load_value.ensures
+    by_part (λ (x : Coded). OnOk c.found.result (c.found.new.code ≡ c.args.code.now ++ x.value c.args.dest c.args.to)) (spot_of c.args.s) c.args.e.now _ (λ (x : TPlace). load_coded (spot_of c.args.s) c.in-Load.ty (placed (spot_of c.args.s) x)) _ _ c.in-Load.is (coded-Load (spot_of c.args.s) c.in-Load.ty c.in-Load.place) c.get.ensures c.found.ensures
 
 pub expr::value-returns-in-Decay : goal.expr::value-returns-in-Decay
 expr::value-returns-in-Decay t c =
-    by_part (λ (x : Coded). OnOk c.address_value.result (c.address_value.new.code ≡ c.args.code.now ++ x.value c.args.dest c.args.to)) (spot_of c.args.s) c.args.e.now _ (λ (x : TPlace). address_coded (spot_of c.args.s) c.in-Decay.ty (placed (spot_of c.args.s) x)) _ _ c.in-Decay.is (coded-Decay (spot_of c.args.s) c.in-Decay.ty c.in-Decay.place) c.get-in-Decay.ensures c.address_value.ensures
+    by_part (λ (x : Coded). OnOk c.found-in-Decay.result (c.found-in-Decay.new.code ≡ c.args.code.now ++ x.value c.args.dest c.args.to)) (spot_of c.args.s) c.args.e.now _ (λ (x : TPlace). address_coded (spot_of c.args.s) c.in-Decay.ty (placed (spot_of c.args.s) x)) _ _ c.in-Decay.is (coded-Decay (spot_of c.args.s) c.in-Decay.ty c.in-Decay.place) c.get-in-Decay.ensures c.found-in-Decay.ensures
 
 pub expr::value-returns-in-Address : goal.expr::value-returns-in-Address
 expr::value-returns-in-Address t c =
-    by_part (λ (x : Coded). OnOk c.address_value-in-Address.result (c.address_value-in-Address.new.code ≡ c.args.code.now ++ x.value c.args.dest c.args.to)) (spot_of c.args.s) c.args.e.now _ (λ (x : TPlace). address_coded (spot_of c.args.s) c.in-Address.ty (placed (spot_of c.args.s) x)) _ _ c.in-Address.is (coded-Address (spot_of c.args.s) c.in-Address.ty c.in-Address.place) c.get-in-Address.ensures c.address_value-in-Address.ensures
+    by_part (λ (x : Coded). OnOk c.found-in-Address.result (c.found-in-Address.new.code ≡ c.args.code.now ++ x.value c.args.dest c.args.to)) (spot_of c.args.s) c.args.e.now _ (λ (x : TPlace). address_coded (spot_of c.args.s) c.in-Address.ty (placed (spot_of c.args.s) x)) _ _ c.in-Address.is (coded-Address (spot_of c.args.s) c.in-Address.ty c.in-Address.place) c.get-in-Address.ensures c.found-in-Address.ensures
 
 pub expr::value-returns-in-Unary : goal.expr::value-returns-in-Unary
 expr::value-returns-in-Unary t c =
-    by_unary (λ (x : Coded). OnOk c.unary_value.result (c.unary_value.new.code ≡ c.args.code.now ++ x.value c.args.dest c.args.to)) (spot_of c.args.s) c.args.e.now _ _ _ _ _ c.in_ok-bits.ensures c.in-None.is c.in-Unary.is c.get-in-Unary.ensures c.unary_value.ensures
+    by_unary (λ (x : Coded). OnOk c.unary_value.result (c.unary_value.new.code ≡ c.args.code.now ++ x.value c.args.dest c.args.to)) (spot_of c.args.s) c.args.e.now _ _ _ _ _ (sym (open_folded (spot_of c.args.s) c.args.e.now _ c.in_ok-bits.ensures.made c.in-Open.is)) refl c.in-Unary.is c.get-in-Unary.ensures c.unary_value.ensures
 
 pub expr::value-returns-in-Not : goal.expr::value-returns-in-Not
 expr::value-returns-in-Not t c =
-    by_part (λ (x : Coded). OnOk c.not_value.result (c.not_value.new.code ≡ c.args.code.now ++ x.value c.args.dest c.args.to)) (spot_of c.args.s) c.args.e.now _ (λ (x : TExpr). negation_coded (spot_of c.args.s) c.in-Not.ty (words (spot_of c.args.s) (type_of x)) (coded (spot_of c.args.s) x)) _ _ c.in-Not.is (open-Not (spot_of c.args.s) c.in-Not.ty c.in-Not.of (not_folded (spot_of c.args.s) c.args.e.now _ _ c.in_ok-bits.ensures c.in-None.is c.in-Not.is)) c.get-in-Not.ensures c.not_value.ensures
+    by_part (λ (x : Coded). OnOk c.used.result (c.used.new.code ≡ c.args.code.now ++ x.value c.args.dest c.args.to)) (spot_of c.args.s) c.args.e.now _ (λ (x : TExpr). negation_coded (spot_of c.args.s) c.in-Not.ty (words (spot_of c.args.s) (type_of x)) (coded (spot_of c.args.s) x)) _ _ c.in-Not.is (open-Not (spot_of c.args.s) c.in-Not.ty c.in-Not.of (not_folded (spot_of c.args.s) c.args.e.now _ _ (sym (open_folded (spot_of c.args.s) c.args.e.now _ c.in_ok-bits.ensures.made c.in-Open.is)) refl c.in-Not.is)) c.get-in-Not.ensures c.used.ensures
 
 pub expr::value-returns-in-Binary : goal.expr::value-returns-in-Binary
 expr::value-returns-in-Binary t c =
-    by_parts (λ (x : Coded). OnOk c.binary_value.result (c.binary_value.new.code ≡ c.args.code.now ++ x.value c.args.dest c.args.to)) (spot_of c.args.s) c.args.e.now _ (λ (x : TExpr) (y : TExpr). binary_coded (spot_of c.args.s) c.in-Binary.ty c.in-Binary.op c.in-Binary.kind (words (spot_of c.args.s) (type_of x)) (coded (spot_of c.args.s) x) (coded (spot_of c.args.s) y)) _ _ _ _ c.in-Binary.is (open-Binary (spot_of c.args.s) c.in-Binary.ty c.in-Binary.op c.in-Binary.kind c.in-Binary.left c.in-Binary.right (not_folded (spot_of c.args.s) c.args.e.now _ _ c.in_ok-bits.ensures c.in-None.is c.in-Binary.is)) c.get-in-Binary.ensures c.get-in-Binary-2.ensures (subst (λ (ops : List Operation). OnOk c.binary_value.result (c.binary_value.new.code ≡ c.args.code.now ++ ops)) (sym (binary_values (spot_of c.args.s) c.in-Binary.ty c.in-Binary.op c.in-Binary.kind (words (spot_of c.args.s) (type_of c.get-in-Binary.result.now)) (coded (spot_of c.args.s) c.get-in-Binary.result.now) (coded (spot_of c.args.s) c.get-in-Binary-2.result.now) c.args.dest c.args.to)) c.binary_value.ensures)
+    by_parts (λ (x : Coded). OnOk c.binary_value.result (c.binary_value.new.code ≡ c.args.code.now ++ x.value c.args.dest c.args.to)) (spot_of c.args.s) c.args.e.now _ (λ (x : TExpr) (y : TExpr). binary_coded (spot_of c.args.s) c.in-Binary.ty c.in-Binary.op c.in-Binary.kind (words (spot_of c.args.s) (type_of x)) (coded (spot_of c.args.s) x) (coded (spot_of c.args.s) y)) _ _ _ _ c.in-Binary.is (open-Binary (spot_of c.args.s) c.in-Binary.ty c.in-Binary.op c.in-Binary.kind c.in-Binary.left c.in-Binary.right (not_folded (spot_of c.args.s) c.args.e.now _ _ (sym (open_folded (spot_of c.args.s) c.args.e.now _ c.in_ok-bits.ensures.made c.in-Open.is)) refl c.in-Binary.is)) c.get-in-Binary.ensures c.get-in-Binary-2.ensures (subst (λ (ops : List Operation). OnOk c.binary_value.result (c.binary_value.new.code ≡ c.args.code.now ++ ops)) (sym (binary_values (spot_of c.args.s) c.in-Binary.ty c.in-Binary.op c.in-Binary.kind (words (spot_of c.args.s) (type_of c.get-in-Binary.result.now)) (coded (spot_of c.args.s) c.get-in-Binary.result.now) (coded (spot_of c.args.s) c.get-in-Binary-2.result.now) c.args.dest c.args.to)) c.binary_value.ensures)
 
 pub expr::value-returns-in-Logical : goal.expr::value-returns-in-Logical
 expr::value-returns-in-Logical t c =
-    by_parts (λ (x : Coded). OnOk c.logical_value.result (c.logical_value.new.code ≡ c.args.code.now ++ x.value c.args.dest c.args.to)) (spot_of c.args.s) c.args.e.now _ (λ (x : TExpr) (y : TExpr). logical_coded (spot_of c.args.s) c.in-Logical.ty c.in-Logical.op (words (spot_of c.args.s) (type_of y)) (coded (spot_of c.args.s) x) (coded (spot_of c.args.s) y)) _ _ _ _ c.in-Logical.is (open-Logical (spot_of c.args.s) c.in-Logical.ty c.in-Logical.op c.in-Logical.left c.in-Logical.right (not_folded (spot_of c.args.s) c.args.e.now _ _ c.in_ok-bits.ensures c.in-None.is c.in-Logical.is)) c.get-in-Logical.ensures c.get-in-Logical-2.ensures (subst (λ (ops : List Operation). OnOk c.logical_value.result (c.logical_value.new.code ≡ c.args.code.now ++ ops)) (sym (logical_values (spot_of c.args.s) c.in-Logical.ty c.in-Logical.op (words (spot_of c.args.s) (type_of c.get-in-Logical-2.result.now)) (coded (spot_of c.args.s) c.get-in-Logical.result.now) (coded (spot_of c.args.s) c.get-in-Logical-2.result.now) c.args.dest c.args.to)) c.logical_value.ensures)
+    by_parts (λ (x : Coded). OnOk c.logical_value.result (c.logical_value.new.code ≡ c.args.code.now ++ x.value c.args.dest c.args.to)) (spot_of c.args.s) c.args.e.now _ (λ (x : TExpr) (y : TExpr). logical_coded (spot_of c.args.s) c.in-Logical.ty c.in-Logical.op (words (spot_of c.args.s) (type_of y)) (coded (spot_of c.args.s) x) (coded (spot_of c.args.s) y)) _ _ _ _ c.in-Logical.is (open-Logical (spot_of c.args.s) c.in-Logical.ty c.in-Logical.op c.in-Logical.left c.in-Logical.right (not_folded (spot_of c.args.s) c.args.e.now _ _ (sym (open_folded (spot_of c.args.s) c.args.e.now _ c.in_ok-bits.ensures.made c.in-Open.is)) refl c.in-Logical.is)) c.get-in-Logical.ensures c.get-in-Logical-2.ensures (subst (λ (ops : List Operation). OnOk c.logical_value.result (c.logical_value.new.code ≡ c.args.code.now ++ ops)) (sym (logical_values (spot_of c.args.s) c.in-Logical.ty c.in-Logical.op (words (spot_of c.args.s) (type_of c.get-in-Logical-2.result.now)) (coded (spot_of c.args.s) c.get-in-Logical.result.now) (coded (spot_of c.args.s) c.get-in-Logical-2.result.now) c.args.dest c.args.to)) c.logical_value.ensures)
 
 pub expr::value-returns-in-Move : goal.expr::value-returns-in-Move
 expr::value-returns-in-Move t c =
@@ -72,23 +104,23 @@ expr::value-returns-in-Move t c =
 
 pub expr::value-returns-in-Difference : goal.expr::value-returns-in-Difference
 expr::value-returns-in-Difference t c =
-    by_parts (λ (x : Coded). OnOk c.difference_value.result (c.difference_value.new.code ≡ c.args.code.now ++ x.value c.args.dest c.args.to)) (spot_of c.args.s) c.args.e.now _ (λ (x : TExpr) (y : TExpr). difference_coded (spot_of c.args.s) c.in-Difference.ty (size (spot_of c.args.s) (pointee (type_of x))) (coded (spot_of c.args.s) x) (coded (spot_of c.args.s) y)) _ _ _ _ c.in-Difference.is (coded-Difference (spot_of c.args.s) c.in-Difference.ty c.in-Difference.left c.in-Difference.right) c.get-in-Difference.ensures c.get-in-Difference-2.ensures c.difference_value.ensures
+    by_parts (λ (x : Coded). OnOk c.joined.result (c.joined.new.code ≡ c.args.code.now ++ x.value c.args.dest c.args.to)) (spot_of c.args.s) c.args.e.now _ (λ (x : TExpr) (y : TExpr). difference_coded (spot_of c.args.s) c.in-Difference.ty (size (spot_of c.args.s) (pointee (type_of x))) (coded (spot_of c.args.s) x) (coded (spot_of c.args.s) y)) _ _ _ _ c.in-Difference.is (coded-Difference (spot_of c.args.s) c.in-Difference.ty c.in-Difference.left c.in-Difference.right) c.get-in-Difference.ensures c.get-in-Difference-2.ensures c.joined.ensures
 
 pub expr::value-returns-in-Assign : goal.expr::value-returns-in-Assign
 expr::value-returns-in-Assign t c =
-    by_parts (λ (x : Coded). OnOk c.assign_value.result (c.assign_value.new.code ≡ c.args.code.now ++ x.value c.args.dest c.args.to)) (spot_of c.args.s) c.args.e.now _ (λ (x : TTarget) (y : TExpr). assign_coded (spot_of c.args.s) c.in-Assign.ty (aimed (spot_of c.args.s) x) (coded (spot_of c.args.s) y)) _ _ _ _ c.in-Assign.is (coded-Assign (spot_of c.args.s) c.in-Assign.ty c.in-Assign.target c.in-Assign.value) c.get-in-Assign.ensures c.get-in-Assign-2.ensures c.assign_value.ensures
+    by_parts (λ (x : Coded). OnOk c.assigns.result (c.assigns.new.code ≡ c.args.code.now ++ x.value c.args.dest c.args.to)) (spot_of c.args.s) c.args.e.now _ (λ (x : TTarget) (y : TExpr). assign_coded (spot_of c.args.s) c.in-Assign.ty (aimed (spot_of c.args.s) x) (coded (spot_of c.args.s) y)) _ _ _ _ c.in-Assign.is (coded-Assign (spot_of c.args.s) c.in-Assign.ty c.in-Assign.target c.in-Assign.value) c.get-in-Assign.ensures c.get-in-Assign-2.ensures c.assigns.ensures
 
 pub expr::value-returns-in-Update : goal.expr::value-returns-in-Update
 expr::value-returns-in-Update t c =
-    by_parts (λ (x : Coded). OnOk c.update_value.result (c.update_value.new.code ≡ c.args.code.now ++ x.value c.args.dest c.args.to)) (spot_of c.args.s) c.args.e.now _ (λ (x : TPlace) (y : TExpr). update_coded (spot_of c.args.s) c.in-Update.ty (placed (spot_of c.args.s) x) c.in-Update.change (coded (spot_of c.args.s) y)) _ _ _ _ c.in-Update.is (coded-Update (spot_of c.args.s) c.in-Update.ty c.in-Update.place c.in-Update.change c.in-Update.value) c.get-in-Update.ensures c.get-in-Update-2.ensures c.update_value.ensures
+    by_parts (λ (x : Coded). OnOk c.update.result (c.update.new.code ≡ c.args.code.now ++ x.value c.args.dest c.args.to)) (spot_of c.args.s) c.args.e.now _ (λ (x : TPlace) (y : TExpr). update_coded (spot_of c.args.s) c.in-Update.ty (placed (spot_of c.args.s) x) c.in-Update.change (coded (spot_of c.args.s) y)) _ _ _ _ c.in-Update.is (coded-Update (spot_of c.args.s) c.in-Update.ty c.in-Update.place c.in-Update.change c.in-Update.value) c.get-in-Update.ensures c.get-in-Update-2.ensures c.update.ensures
 
 pub expr::value-returns-in-Step : goal.expr::value-returns-in-Step
 expr::value-returns-in-Step t c =
-    by_part (λ (x : Coded). OnOk c.step_value.result (c.step_value.new.code ≡ c.args.code.now ++ x.value c.args.dest c.args.to)) (spot_of c.args.s) c.args.e.now _ (λ (x : TPlace). stepped_coded (spot_of c.args.s) c.in-Step.ty c.in-Step.op (placed (spot_of c.args.s) x)) _ _ c.in-Step.is (coded-Step (spot_of c.args.s) c.in-Step.ty c.in-Step.op c.in-Step.place) c.get-in-Step.ensures c.step_value.ensures
+    by_part (λ (x : Coded). OnOk c.stepped.result (c.stepped.new.code ≡ c.args.code.now ++ x.value c.args.dest c.args.to)) (spot_of c.args.s) c.args.e.now _ (λ (x : TPlace). stepped_coded (spot_of c.args.s) c.in-Step.ty c.in-Step.op (placed (spot_of c.args.s) x)) _ _ c.in-Step.is (coded-Step (spot_of c.args.s) c.in-Step.ty c.in-Step.op c.in-Step.place) c.get-in-Step.ensures c.stepped.ensures
 
 pub expr::value-returns-in-Zerox : goal.expr::value-returns-in-Zerox
 expr::value-returns-in-Zerox t c =
-    by_part (λ (x : Coded). OnOk c.zerox_value.result (c.zerox_value.new.code ≡ c.args.code.now ++ x.value c.args.dest c.args.to)) (spot_of c.args.s) c.args.e.now _ (λ (x : TPlace). zerox_coded (spot_of c.args.s) c.in-Zerox.ty (placed (spot_of c.args.s) x)) _ _ c.in-Zerox.is (coded-Zerox (spot_of c.args.s) c.in-Zerox.ty c.in-Zerox.place) c.get-in-Zerox.ensures c.zerox_value.ensures
+    by_part (λ (x : Coded). OnOk c.stepped-in-Zerox.result (c.stepped-in-Zerox.new.code ≡ c.args.code.now ++ x.value c.args.dest c.args.to)) (spot_of c.args.s) c.args.e.now _ (λ (x : TPlace). zerox_coded (spot_of c.args.s) c.in-Zerox.ty (placed (spot_of c.args.s) x)) _ _ c.in-Zerox.is (coded-Zerox (spot_of c.args.s) c.in-Zerox.ty c.in-Zerox.place) c.get-in-Zerox.ensures c.stepped-in-Zerox.ensures
 
 pub expr::value-returns-in-Tuple : goal.expr::value-returns-in-Tuple
 expr::value-returns-in-Tuple t c =
@@ -96,11 +128,11 @@ expr::value-returns-in-Tuple t c =
 
 pub expr::value-returns-in-Call : goal.expr::value-returns-in-Call
 expr::value-returns-in-Call t c =
-    by_form (λ (x : Coded). OnOk c.call_value.result (c.call_value.new.code ≡ c.args.code.now ++ x.value c.args.dest c.args.to)) (spot_of c.args.s) c.args.e.now _ _ c.in-Call.is (coded-Call (spot_of c.args.s) c.in-Call.ty c.in-Call.function c.in-Call.receiver c.in-Call.arguments) c.call_value.ensures
+    by_form (λ (x : Coded). OnOk c.call.result (c.call.new.code ≡ c.args.code.now ++ x.value c.args.dest c.args.to)) (spot_of c.args.s) c.args.e.now _ _ c.in-Call.is (coded-Call (spot_of c.args.s) c.in-Call.ty c.in-Call.function c.in-Call.receiver c.in-Call.arguments) c.call.ensures
 
 pub expr::value-returns-in-CallPointer : goal.expr::value-returns-in-CallPointer
 expr::value-returns-in-CallPointer t c =
-    by_part (λ (x : Coded). OnOk c.call_pointer_value.result (c.call_pointer_value.new.code ≡ c.args.code.now ++ x.value c.args.dest c.args.to)) (spot_of c.args.s) c.args.e.now _ (λ (x : TExpr). call_pointer_coded (spot_of c.args.s) c.in-CallPointer.ty (class_number c.args.s.program.now (pointee (type_of x))) (coded (spot_of c.args.s) x) (row_of (spot_of c.args.s) c.in-CallPointer.arguments)) _ _ c.in-CallPointer.is (coded-CallPointer (spot_of c.args.s) c.in-CallPointer.ty c.in-CallPointer.pointer c.in-CallPointer.arguments) c.get-in-CallPointer.ensures c.call_pointer_value.ensures
+    by_part (λ (x : Coded). OnOk c.call_pointer.result (c.call_pointer.new.code ≡ c.args.code.now ++ x.value c.args.dest c.args.to)) (spot_of c.args.s) c.args.e.now _ (λ (x : TExpr). call_pointer_coded (spot_of c.args.s) c.in-CallPointer.ty (class_number c.args.s.program.now (pointee (type_of x))) (coded (spot_of c.args.s) x) (row_of (spot_of c.args.s) c.in-CallPointer.arguments)) _ _ c.in-CallPointer.is (coded-CallPointer (spot_of c.args.s) c.in-CallPointer.ty c.in-CallPointer.pointer c.in-CallPointer.arguments) c.get-in-CallPointer.ensures c.call_pointer.ensures
 
 pub expr::value-returns-in-Print : goal.expr::value-returns-in-Print
 expr::value-returns-in-Print t c =
@@ -108,31 +140,31 @@ expr::value-returns-in-Print t c =
 
 pub expr::value-returns-in-Terminate : goal.expr::value-returns-in-Terminate
 expr::value-returns-in-Terminate t c =
-    by_part (λ (x : Coded). OnOk c.terminate_value.result (c.terminate_value.new.code ≡ c.args.code.now ++ x.value c.args.dest c.args.to)) (spot_of c.args.s) c.args.e.now _ (λ (x : TExpr). terminate_coded (spot_of c.args.s) c.in-Terminate.ty (coded (spot_of c.args.s) x)) _ _ c.in-Terminate.is (coded-Terminate (spot_of c.args.s) c.in-Terminate.ty c.in-Terminate.status) c.get-in-Terminate.ensures c.terminate_value.ensures
+    by_part (λ (x : Coded). OnOk c.used-in-Terminate.result (c.used-in-Terminate.new.code ≡ c.args.code.now ++ x.value c.args.dest c.args.to)) (spot_of c.args.s) c.args.e.now _ (λ (x : TExpr). terminate_coded (spot_of c.args.s) c.in-Terminate.ty (coded (spot_of c.args.s) x)) _ _ c.in-Terminate.is (coded-Terminate (spot_of c.args.s) c.in-Terminate.ty c.in-Terminate.status) c.get-in-Terminate.ensures c.used-in-Terminate.ensures
 
 pub expr::value-returns-in-Receive : goal.expr::value-returns-in-Receive
 expr::value-returns-in-Receive t c =
-    by_part (λ (x : Coded). OnOk c.receive_value.result (c.receive_value.new.code ≡ c.args.code.now ++ x.value c.args.dest c.args.to)) (spot_of c.args.s) c.args.e.now _ (λ (x : TExpr). receive_coded (spot_of c.args.s) c.in-Receive.ty (coded (spot_of c.args.s) x)) _ _ c.in-Receive.is (coded-Receive (spot_of c.args.s) c.in-Receive.ty c.in-Receive.chan) c.get-in-Receive.ensures c.receive_value.ensures
+    by_part (λ (x : Coded). OnOk c.used-in-Receive.result (c.used-in-Receive.new.code ≡ c.args.code.now ++ x.value c.args.dest c.args.to)) (spot_of c.args.s) c.args.e.now _ (λ (x : TExpr). receive_coded (spot_of c.args.s) c.in-Receive.ty (coded (spot_of c.args.s) x)) _ _ c.in-Receive.is (coded-Receive (spot_of c.args.s) c.in-Receive.ty c.in-Receive.chan) c.get-in-Receive.ensures c.used-in-Receive.ensures
 
 pub expr::value-returns-in-Send : goal.expr::value-returns-in-Send
 expr::value-returns-in-Send t c =
-    by_parts (λ (x : Coded). OnOk c.send_value.result (c.send_value.new.code ≡ c.args.code.now ++ x.value c.args.dest c.args.to)) (spot_of c.args.s) c.args.e.now _ (λ (x : TExpr) (y : TExpr). send_coded (spot_of c.args.s) c.in-Send.ty (type_of y) (coded (spot_of c.args.s) x) (coded (spot_of c.args.s) y)) _ _ _ _ c.in-Send.is (coded-Send (spot_of c.args.s) c.in-Send.ty c.in-Send.chan c.in-Send.value) c.get-in-Send.ensures c.get-in-Send-2.ensures c.send_value.ensures
+    by_parts (λ (x : Coded). OnOk c.joined-in-Send.result (c.joined-in-Send.new.code ≡ c.args.code.now ++ x.value c.args.dest c.args.to)) (spot_of c.args.s) c.args.e.now _ (λ (x : TExpr) (y : TExpr). send_coded (spot_of c.args.s) c.in-Send.ty (type_of y) (coded (spot_of c.args.s) x) (coded (spot_of c.args.s) y)) _ _ _ _ c.in-Send.is (coded-Send (spot_of c.args.s) c.in-Send.ty c.in-Send.chan c.in-Send.value) c.get-in-Send.ensures c.get-in-Send-2.ensures c.joined-in-Send.ensures
 
 pub expr::value-returns-in-CanReceive : goal.expr::value-returns-in-CanReceive
 expr::value-returns-in-CanReceive t c =
-    by_part (λ (x : Coded). OnOk c.can_receive_value.result (c.can_receive_value.new.code ≡ c.args.code.now ++ x.value c.args.dest c.args.to)) (spot_of c.args.s) c.args.e.now _ (λ (x : TExpr). can_receive_coded (spot_of c.args.s) c.in-CanReceive.ty (coded (spot_of c.args.s) x)) _ _ c.in-CanReceive.is (coded-CanReceive (spot_of c.args.s) c.in-CanReceive.ty c.in-CanReceive.chan) c.get-in-CanReceive.ensures c.can_receive_value.ensures
+    by_part (λ (x : Coded). OnOk c.used-in-CanReceive.result (c.used-in-CanReceive.new.code ≡ c.args.code.now ++ x.value c.args.dest c.args.to)) (spot_of c.args.s) c.args.e.now _ (λ (x : TExpr). can_receive_coded (spot_of c.args.s) c.in-CanReceive.ty (coded (spot_of c.args.s) x)) _ _ c.in-CanReceive.is (coded-CanReceive (spot_of c.args.s) c.in-CanReceive.ty c.in-CanReceive.chan) c.get-in-CanReceive.ensures c.used-in-CanReceive.ensures
 
 pub expr::value-returns-in-CanSend : goal.expr::value-returns-in-CanSend
 expr::value-returns-in-CanSend t c =
-    by_part (λ (x : Coded). OnOk c.can_send_value.result (c.can_send_value.new.code ≡ c.args.code.now ++ x.value c.args.dest c.args.to)) (spot_of c.args.s) c.args.e.now _ (λ (x : TExpr). can_send_coded (spot_of c.args.s) c.in-CanSend.ty (coded (spot_of c.args.s) x)) _ _ c.in-CanSend.is (coded-CanSend (spot_of c.args.s) c.in-CanSend.ty c.in-CanSend.chan) c.get-in-CanSend.ensures c.can_send_value.ensures
+    by_part (λ (x : Coded). OnOk c.used-in-CanSend.result (c.used-in-CanSend.new.code ≡ c.args.code.now ++ x.value c.args.dest c.args.to)) (spot_of c.args.s) c.args.e.now _ (λ (x : TExpr). can_send_coded (spot_of c.args.s) c.in-CanSend.ty (coded (spot_of c.args.s) x)) _ _ c.in-CanSend.is (coded-CanSend (spot_of c.args.s) c.in-CanSend.ty c.in-CanSend.chan) c.get-in-CanSend.ensures c.used-in-CanSend.ensures
 
 pub expr::value-returns-in-MemberOf : goal.expr::value-returns-in-MemberOf
 expr::value-returns-in-MemberOf t c =
-    by_parts (λ (x : Coded). OnOk c.member_of_value.result (c.member_of_value.new.code ≡ c.args.code.now ++ x.value c.args.dest c.args.to)) (spot_of c.args.s) c.args.e.now _ (λ (x : TExpr) (y : List ℕ). member_coded (spot_of c.args.s) (type_of x) c.in-MemberOf.ty y (coded (spot_of c.args.s) x)) _ _ _ _ c.in-MemberOf.is (coded-MemberOf (spot_of c.args.s) c.in-MemberOf.ty c.in-MemberOf.value c.in-MemberOf.path) c.get-in-MemberOf.ensures c.as_slice-in-MemberOf.ensures.value c.member_of_value.ensures
+    by_parts (λ (x : Coded). OnOk c.taken.result (c.taken.new.code ≡ c.args.code.now ++ x.value c.args.dest c.args.to)) (spot_of c.args.s) c.args.e.now _ (λ (x : TExpr) (y : List ℕ). member_coded (spot_of c.args.s) (type_of x) c.in-MemberOf.ty y (coded (spot_of c.args.s) x)) _ _ _ _ c.in-MemberOf.is (coded-MemberOf (spot_of c.args.s) c.in-MemberOf.ty c.in-MemberOf.value c.in-MemberOf.path) c.get-in-MemberOf.ensures c.as_slice-path.ensures.value c.taken.ensures
 
 pub expr::value-returns-in-Cast : goal.expr::value-returns-in-Cast
 expr::value-returns-in-Cast t c =
-    by_conversion (λ (x : Coded). OnOk c.converted_value.result (c.converted_value.new.code ≡ c.args.code.now ++ x.value c.args.dest c.args.to)) (spot_of c.args.s) c.args.e.now _ _ _ _ c.in_ok-bits.ensures c.in-None.is c.in-Cast.is c.get-in-Cast.ensures c.converted_value.ensures
+    by_conversion (λ (x : Coded). OnOk c.changed_value.result (c.changed_value.new.code ≡ c.args.code.now ++ x.value c.args.dest c.args.to)) (spot_of c.args.s) c.args.e.now _ _ _ _ (sym (open_folded (spot_of c.args.s) c.args.e.now _ c.in_ok-bits.ensures.made c.in-Open.is)) refl c.in-Cast.is c.get-in-Cast.ensures (subst (λ (ops : List Operation). OnOk c.changed_value.result (c.changed_value.new.code ≡ c.args.code.now ++ ops)) (sym (converted_changes (spot_of c.args.s) (type_of c.get-in-Cast.result.now) c.in-Cast.ty (coded (spot_of c.args.s) c.get-in-Cast.result.now) c.args.dest c.args.to (changed (open_same (spot_of c.args.s) c.args.e.now _ c.in_ok-bits.ensures.made c.in-Open.is) c.in-Cast.is c.get-in-Cast.ensures))) c.changed_value.ensures)
 
 pub expr::value-returns-in-Sequence : goal.expr::value-returns-in-Sequence
 expr::value-returns-in-Sequence t c =
@@ -144,47 +176,35 @@ expr::value-returns-in-Iterator t c =
 
 pub expr::value-returns-in-SizeofPlace : goal.expr::value-returns-in-SizeofPlace
 expr::value-returns-in-SizeofPlace t c =
-    absurd (some_none _ _ (folded-SizeofPlace (spot_of c.args.s) c.in-SizeofPlace.ty c.in-SizeofPlace.place) (not_folded (spot_of c.args.s) c.args.e.now _ _ c.in_ok-bits.ensures c.in-None.is c.in-SizeofPlace.is))
+    absurd (some_none _ _ (folded-SizeofPlace (spot_of c.args.s) c.in-SizeofPlace.ty c.in-SizeofPlace.place) (not_folded (spot_of c.args.s) c.args.e.now _ _ (sym (open_folded (spot_of c.args.s) c.args.e.now _ c.in_ok-bits.ensures.made c.in-Open.is)) refl c.in-SizeofPlace.is))
 
 pub expr::value-returns-in-SizeofValue : goal.expr::value-returns-in-SizeofValue
 expr::value-returns-in-SizeofValue t c =
-    absurd (some_none _ _ (folded-SizeofValue (spot_of c.args.s) c.in-SizeofValue.ty c.in-SizeofValue.value) (not_folded (spot_of c.args.s) c.args.e.now _ _ c.in_ok-bits.ensures c.in-None.is c.in-SizeofValue.is))
-
-pub expr::effect-returns-in-Some : goal.expr::effect-returns-in-Some
-expr::effect-returns-in-Some t c =
-    by_constant (λ (x : Coded). c.args.code.now ≡ c.args.code.now ++ x.effect c.args.to) (spot_of c.args.s) c.args.e.now _ _ c.in_ok-folded.ensures c.in-Some.is (sym (append-nil c.args.code.now))
-
-pub expr::effect-returns-in-Unary : goal.expr::effect-returns-in-Unary
-expr::effect-returns-in-Unary t c =
-    by_unary (λ (x : Coded). OnOk c.unary_effect.result (c.unary_effect.new.code ≡ c.args.code.now ++ x.effect c.args.to)) (spot_of c.args.s) c.args.e.now _ _ _ _ _ c.in_ok-folded.ensures c.in-None.is c.in-Unary.is c.get.ensures c.unary_effect.ensures
-
-pub expr::effect-returns-in-Cast : goal.expr::effect-returns-in-Cast
-expr::effect-returns-in-Cast t c =
-    by_conversion (λ (x : Coded). OnOk c.converted_effect.result (c.converted_effect.new.code ≡ c.args.code.now ++ x.effect c.args.to)) (spot_of c.args.s) c.args.e.now _ _ _ _ c.in_ok-folded.ensures c.in-None.is c.in-Cast.is c.get-in-Cast.ensures c.converted_effect.ensures
+    absurd (some_none _ _ (folded-SizeofValue (spot_of c.args.s) c.in-SizeofValue.ty c.in-SizeofValue.value) (not_folded (spot_of c.args.s) c.args.e.now _ _ (sym (open_folded (spot_of c.args.s) c.args.e.now _ c.in_ok-bits.ensures.made c.in-Open.is)) refl c.in-SizeofValue.is))
 
 pub expr::effect-returns-in-Assign : goal.expr::effect-returns-in-Assign
 expr::effect-returns-in-Assign t c =
-    by_parts (λ (x : Coded). OnOk c.assign_effect.result (c.assign_effect.new.code ≡ c.args.code.now ++ x.effect c.args.to)) (spot_of c.args.s) c.args.e.now _ (λ (x : TTarget) (y : TExpr). assign_coded (spot_of c.args.s) c.in-Assign.ty (aimed (spot_of c.args.s) x) (coded (spot_of c.args.s) y)) _ _ _ _ c.in-Assign.is (coded-Assign (spot_of c.args.s) c.in-Assign.ty c.in-Assign.target c.in-Assign.value) c.get-in-Assign.ensures c.get-in-Assign-2.ensures c.assign_effect.ensures
+    by_parts (λ (x : Coded). OnOk c.assigns.result (c.assigns.new.code ≡ c.args.code.now ++ x.effect c.args.to)) (spot_of c.args.s) c.args.e.now _ (λ (x : TTarget) (y : TExpr). assign_coded (spot_of c.args.s) c.in-Assign.ty (aimed (spot_of c.args.s) x) (coded (spot_of c.args.s) y)) _ _ _ _ c.in-Assign.is (coded-Assign (spot_of c.args.s) c.in-Assign.ty c.in-Assign.target c.in-Assign.value) c.get.ensures c.get-in-Assign.ensures c.assigns.ensures
 
 pub expr::effect-returns-in-Update : goal.expr::effect-returns-in-Update
 expr::effect-returns-in-Update t c =
-    by_parts (λ (x : Coded). OnOk c.update_effect.result (c.update_effect.new.code ≡ c.args.code.now ++ x.effect c.args.to)) (spot_of c.args.s) c.args.e.now _ (λ (x : TPlace) (y : TExpr). update_coded (spot_of c.args.s) c.in-Update.ty (placed (spot_of c.args.s) x) c.in-Update.change (coded (spot_of c.args.s) y)) _ _ _ _ c.in-Update.is (coded-Update (spot_of c.args.s) c.in-Update.ty c.in-Update.place c.in-Update.change c.in-Update.value) c.get-in-Update.ensures c.get-in-Update-2.ensures c.update_effect.ensures
+    by_parts (λ (x : Coded). OnOk c.update.result (c.update.new.code ≡ c.args.code.now ++ x.effect c.args.to)) (spot_of c.args.s) c.args.e.now _ (λ (x : TPlace) (y : TExpr). update_coded (spot_of c.args.s) c.in-Update.ty (placed (spot_of c.args.s) x) c.in-Update.change (coded (spot_of c.args.s) y)) _ _ _ _ c.in-Update.is (coded-Update (spot_of c.args.s) c.in-Update.ty c.in-Update.place c.in-Update.change c.in-Update.value) c.get-in-Update.ensures c.get-in-Update-2.ensures c.update.ensures
 
 pub expr::effect-returns-in-Step : goal.expr::effect-returns-in-Step
 expr::effect-returns-in-Step t c =
-    by_part (λ (x : Coded). OnOk c.step_effect.result (c.step_effect.new.code ≡ c.args.code.now ++ x.effect c.args.to)) (spot_of c.args.s) c.args.e.now _ (λ (x : TPlace). stepped_coded (spot_of c.args.s) c.in-Step.ty c.in-Step.op (placed (spot_of c.args.s) x)) _ _ c.in-Step.is (coded-Step (spot_of c.args.s) c.in-Step.ty c.in-Step.op c.in-Step.place) c.get-in-Step.ensures c.step_effect.ensures
+    by_part (λ (x : Coded). OnOk c.stepped.result (c.stepped.new.code ≡ c.args.code.now ++ x.effect c.args.to)) (spot_of c.args.s) c.args.e.now _ (λ (x : TPlace). stepped_coded (spot_of c.args.s) c.in-Step.ty c.in-Step.op (placed (spot_of c.args.s) x)) _ _ c.in-Step.is (coded-Step (spot_of c.args.s) c.in-Step.ty c.in-Step.op c.in-Step.place) c.get-in-Step.ensures c.stepped.ensures
 
 pub expr::effect-returns-in-Zerox : goal.expr::effect-returns-in-Zerox
 expr::effect-returns-in-Zerox t c =
-    by_part (λ (x : Coded). OnOk c.zerox_effect.result (c.zerox_effect.new.code ≡ c.args.code.now ++ x.effect c.args.to)) (spot_of c.args.s) c.args.e.now _ (λ (x : TPlace). zerox_coded (spot_of c.args.s) c.in-Zerox.ty (placed (spot_of c.args.s) x)) _ _ c.in-Zerox.is (coded-Zerox (spot_of c.args.s) c.in-Zerox.ty c.in-Zerox.place) c.get-in-Zerox.ensures c.zerox_effect.ensures
+    by_part (λ (x : Coded). OnOk c.stepped-in-Zerox.result (c.stepped-in-Zerox.new.code ≡ c.args.code.now ++ x.effect c.args.to)) (spot_of c.args.s) c.args.e.now _ (λ (x : TPlace). zerox_coded (spot_of c.args.s) c.in-Zerox.ty (placed (spot_of c.args.s) x)) _ _ c.in-Zerox.is (coded-Zerox (spot_of c.args.s) c.in-Zerox.ty c.in-Zerox.place) c.get-in-Zerox.ensures c.stepped-in-Zerox.ensures
 
 pub expr::effect-returns-in-Call : goal.expr::effect-returns-in-Call
 expr::effect-returns-in-Call t c =
-    by_form (λ (x : Coded). OnOk c.call_effect.result (c.call_effect.new.code ≡ c.args.code.now ++ x.effect c.args.to)) (spot_of c.args.s) c.args.e.now _ _ c.in-Call.is (coded-Call (spot_of c.args.s) c.in-Call.ty c.in-Call.function c.in-Call.receiver c.in-Call.arguments) c.call_effect.ensures
+    by_form (λ (x : Coded). OnOk c.call.result (c.call.new.code ≡ c.args.code.now ++ x.effect c.args.to)) (spot_of c.args.s) c.args.e.now _ _ c.in-Call.is (coded-Call (spot_of c.args.s) c.in-Call.ty c.in-Call.function c.in-Call.receiver c.in-Call.arguments) c.call.ensures
 
 pub expr::effect-returns-in-CallPointer : goal.expr::effect-returns-in-CallPointer
 expr::effect-returns-in-CallPointer t c =
-    by_part (λ (x : Coded). OnOk c.call_pointer_effect.result (c.call_pointer_effect.new.code ≡ c.args.code.now ++ x.effect c.args.to)) (spot_of c.args.s) c.args.e.now _ (λ (x : TExpr). call_pointer_coded (spot_of c.args.s) c.in-CallPointer.ty (class_number c.args.s.program.now (pointee (type_of x))) (coded (spot_of c.args.s) x) (row_of (spot_of c.args.s) c.in-CallPointer.arguments)) _ _ c.in-CallPointer.is (coded-CallPointer (spot_of c.args.s) c.in-CallPointer.ty c.in-CallPointer.pointer c.in-CallPointer.arguments) c.get-in-CallPointer.ensures c.call_pointer_effect.ensures
+    by_part (λ (x : Coded). OnOk c.call_pointer.result (c.call_pointer.new.code ≡ c.args.code.now ++ x.effect c.args.to)) (spot_of c.args.s) c.args.e.now _ (λ (x : TExpr). call_pointer_coded (spot_of c.args.s) c.in-CallPointer.ty (class_number c.args.s.program.now (pointee (type_of x))) (coded (spot_of c.args.s) x) (row_of (spot_of c.args.s) c.in-CallPointer.arguments)) _ _ c.in-CallPointer.is (coded-CallPointer (spot_of c.args.s) c.in-CallPointer.ty c.in-CallPointer.pointer c.in-CallPointer.arguments) c.get-in-CallPointer.ensures c.call_pointer.ensures
 
 pub expr::effect-returns-in-Sequence : goal.expr::effect-returns-in-Sequence
 expr::effect-returns-in-Sequence t c =
@@ -192,43 +212,27 @@ expr::effect-returns-in-Sequence t c =
 
 pub expr::effect-returns-in_default : goal.expr::effect-returns-in_default
 expr::effect-returns-in_default t c =
-    subst (λ (ops : List Operation). OnOk c.dropped.result (c.dropped.new.code ≡ c.args.code.now ++ ops)) (sym (drops_rest (spot_of c.args.s) c.args.e.now (sym c.in_ok-folded.ensures ∙ c.in-None.is) c.in_default.not-Unary c.in_default.not-Cast c.in_default.not-Convert c.in_default.not-Assign c.in_default.not-Update c.in_default.not-Step c.in_default.not-Zerox c.in_default.not-Call c.in_default.not-CallPointer c.in_default.not-Sequence c.args.to)) c.dropped.ensures
-
-pub expr::unless-returns-in-Some : goal.expr::unless-returns-in-Some
-expr::unless-returns-in-Some t c =
-    by_constant (λ (x : Coded). OnOk c.skips_known.result (c.skips_known.new.code ≡ c.args.code.now ++ x.unless c.args.to c.args.count)) (spot_of c.args.s) c.args.e.now _ _ c.in_ok-bits.ensures c.in-Some.is c.skips_known.ensures
-
-pub expr::unless-returns-in-Unary : goal.expr::unless-returns-in-Unary
-expr::unless-returns-in-Unary t c =
-    by_unary (λ (x : Coded). OnOk c.unary_unless.result (c.unary_unless.new.code ≡ c.args.code.now ++ x.unless c.args.to c.args.count)) (spot_of c.args.s) c.args.e.now _ _ _ _ _ c.in_ok-bits.ensures c.in-None.is c.in-Unary.is c.get.ensures c.unary_unless.ensures
-
-pub expr::unless-returns-in-Cast : goal.expr::unless-returns-in-Cast
-expr::unless-returns-in-Cast t c =
-    by_conversion (λ (x : Coded). OnOk c.converted_unless.result (c.converted_unless.new.code ≡ c.args.code.now ++ x.unless c.args.to c.args.count)) (spot_of c.args.s) c.args.e.now _ _ _ _ c.in_ok-bits.ensures c.in-None.is c.in-Cast.is c.get-in-Cast.ensures c.converted_unless.ensures
+    subst (λ (ops : List Operation). OnOk c.dropped.result (c.dropped.new.code ≡ c.args.code.now ++ ops)) (sym (drops_rest (spot_of c.args.s) c.args.e.now (open_folded (spot_of c.args.s) c.args.e.now _ c.in_ok-form_of.ensures.made c.in-Open.is) (open_same (spot_of c.args.s) c.args.e.now _ c.in_ok-form_of.ensures.made c.in-Open.is) c.in_default.not-Assign c.in_default.not-Update c.in_default.not-Step c.in_default.not-Zerox c.in_default.not-Call c.in_default.not-CallPointer c.in_default.not-Sequence c.args.to)) c.dropped.ensures
 
 pub expr::unless-returns-in-Not : goal.expr::unless-returns-in-Not
 expr::unless-returns-in-Not t c =
-    by_part (λ (x : Coded). OnOk c.not_unless.result (c.not_unless.new.code ≡ c.args.code.now ++ x.unless c.args.to c.args.count)) (spot_of c.args.s) c.args.e.now _ (λ (x : TExpr). negation_coded (spot_of c.args.s) c.in-Not.ty (words (spot_of c.args.s) (type_of x)) (coded (spot_of c.args.s) x)) _ _ c.in-Not.is (open-Not (spot_of c.args.s) c.in-Not.ty c.in-Not.of (not_folded (spot_of c.args.s) c.args.e.now _ _ c.in_ok-bits.ensures c.in-None.is c.in-Not.is)) c.get-in-Not.ensures c.not_unless.ensures
+    by_part (λ (x : Coded). OnOk c.used.result (c.used.new.code ≡ c.args.code.now ++ x.unless c.args.to c.args.count)) (spot_of c.args.s) c.args.e.now _ (λ (x : TExpr). negation_coded (spot_of c.args.s) c.in-Not.ty (words (spot_of c.args.s) (type_of x)) (coded (spot_of c.args.s) x)) _ _ c.in-Not.is (open-Not (spot_of c.args.s) c.in-Not.ty c.in-Not.of (not_folded (spot_of c.args.s) c.args.e.now _ _ (sym (open_folded (spot_of c.args.s) c.args.e.now _ c.in_ok-bits.ensures.made c.in-Open.is)) refl c.in-Not.is)) c.get.ensures c.used.ensures
 
 pub expr::unless-returns-then-compares_words : goal.expr::unless-returns-then-compares_words
 expr::unless-returns-then-compares_words t c =
-    by_parts (λ (x : Coded). OnOk c.compare_unless.result (c.compare_unless.new.code ≡ c.args.code.now ++ x.unless c.args.to c.args.count)) (spot_of c.args.s) c.args.e.now _ (λ (x : TExpr) (y : TExpr). binary_coded (spot_of c.args.s) c.in-Binary.ty c.in-Binary.op c.in-Binary.kind (words (spot_of c.args.s) (type_of x)) (coded (spot_of c.args.s) x) (coded (spot_of c.args.s) y)) _ _ _ _ c.in-Binary.is (open-Binary (spot_of c.args.s) c.in-Binary.ty c.in-Binary.op c.in-Binary.kind c.in-Binary.left c.in-Binary.right (not_folded (spot_of c.args.s) c.args.e.now _ _ c.in_ok-bits.ensures c.in-None.is c.in-Binary.is)) c.get-then-compares_words.ensures c.get-then-compares_words-2.ensures (subst (λ (ops : List Operation). OnOk c.compare_unless.result (c.compare_unless.new.code ≡ c.args.code.now ++ ops)) (sym (binary_compares (spot_of c.args.s) c.in-Binary.ty c.in-Binary.op c.in-Binary.kind (words (spot_of c.args.s) (type_of c.get-then-compares_words.result.now)) (coded (spot_of c.args.s) c.get-then-compares_words.result.now) (coded (spot_of c.args.s) c.get-then-compares_words-2.result.now) c.args.to c.args.count (sym c.compares_words.ensures ∙ c.if-compares_words.true))) c.compare_unless.ensures)
+    by_parts (λ (x : Coded). OnOk c.joined.result (c.joined.new.code ≡ c.args.code.now ++ x.unless c.args.to c.args.count)) (spot_of c.args.s) c.args.e.now _ (λ (x : TExpr) (y : TExpr). binary_coded (spot_of c.args.s) c.in-Binary.ty c.in-Binary.op c.in-Binary.kind (words (spot_of c.args.s) (type_of x)) (coded (spot_of c.args.s) x) (coded (spot_of c.args.s) y)) _ _ _ _ c.in-Binary.is (open-Binary (spot_of c.args.s) c.in-Binary.ty c.in-Binary.op c.in-Binary.kind c.in-Binary.left c.in-Binary.right (not_folded (spot_of c.args.s) c.args.e.now _ _ (sym (open_folded (spot_of c.args.s) c.args.e.now _ c.in_ok-bits.ensures.made c.in-Open.is)) refl c.in-Binary.is)) c.get-then-compares_words.ensures c.get-then-compares_words-2.ensures (subst (λ (ops : List Operation). OnOk c.joined.result (c.joined.new.code ≡ c.args.code.now ++ ops)) (sym (binary_compares (spot_of c.args.s) c.in-Binary.ty c.in-Binary.op c.in-Binary.kind (words (spot_of c.args.s) (type_of c.get-then-compares_words.result.now)) (coded (spot_of c.args.s) c.get-then-compares_words.result.now) (coded (spot_of c.args.s) c.get-then-compares_words-2.result.now) c.args.to c.args.count (sym c.compares_words.ensures ∙ c.if-compares_words.true))) c.joined.ensures)
 
 pub expr::unless-returns-else-compares_words : goal.expr::unless-returns-else-compares_words
 expr::unless-returns-else-compares_words t c =
-    subst (λ (ops : List Operation). OnOk c.value_unless.result (c.value_unless.new.code ≡ c.args.code.now ++ ops)) (sym (decides_pair (spot_of c.args.s) c.args.e.now c.in-Binary.ty c.in-Binary.op c.in-Binary.kind c.in-Binary.left c.in-Binary.right c.in-Binary.is (not_folded (spot_of c.args.s) c.args.e.now _ _ c.in_ok-bits.ensures c.in-None.is c.in-Binary.is) (sym c.compares_words.ensures ∙ c.if-compares_words.false) c.args.to c.args.count)) c.value_unless.ensures
+    subst (λ (ops : List Operation). OnOk c.used-else-compares_words.result (c.used-else-compares_words.new.code ≡ c.args.code.now ++ ops)) (sym (decides_pair (spot_of c.args.s) c.args.e.now c.in-Binary.ty c.in-Binary.op c.in-Binary.kind c.in-Binary.left c.in-Binary.right c.in-Binary.is (not_folded (spot_of c.args.s) c.args.e.now _ _ (sym (open_folded (spot_of c.args.s) c.args.e.now _ c.in_ok-bits.ensures.made c.in-Open.is)) refl c.in-Binary.is) (sym c.compares_words.ensures ∙ c.if-compares_words.false) c.args.to c.args.count)) c.used-else-compares_words.ensures
 
 pub expr::unless-returns-in-Logical : goal.expr::unless-returns-in-Logical
 expr::unless-returns-in-Logical t c =
-    by_parts (λ (x : Coded). OnOk c.logical_unless.result (c.logical_unless.new.code ≡ c.args.code.now ++ x.unless c.args.to c.args.count)) (spot_of c.args.s) c.args.e.now _ (λ (x : TExpr) (y : TExpr). logical_coded (spot_of c.args.s) c.in-Logical.ty c.in-Logical.op (words (spot_of c.args.s) (type_of y)) (coded (spot_of c.args.s) x) (coded (spot_of c.args.s) y)) _ _ _ _ c.in-Logical.is (open-Logical (spot_of c.args.s) c.in-Logical.ty c.in-Logical.op c.in-Logical.left c.in-Logical.right (not_folded (spot_of c.args.s) c.args.e.now _ _ c.in_ok-bits.ensures c.in-None.is c.in-Logical.is)) c.get-in-Logical.ensures c.get-in-Logical-2.ensures (subst (λ (ops : List Operation). OnOk c.logical_unless.result (c.logical_unless.new.code ≡ c.args.code.now ++ ops)) (sym (logical_decides (spot_of c.args.s) c.in-Logical.ty c.in-Logical.op (words (spot_of c.args.s) (type_of c.get-in-Logical-2.result.now)) (coded (spot_of c.args.s) c.get-in-Logical.result.now) (coded (spot_of c.args.s) c.get-in-Logical-2.result.now) c.args.to c.args.count)) c.logical_unless.ensures)
+    by_parts (λ (x : Coded). OnOk c.logical_unless.result (c.logical_unless.new.code ≡ c.args.code.now ++ x.unless c.args.to c.args.count)) (spot_of c.args.s) c.args.e.now _ (λ (x : TExpr) (y : TExpr). logical_coded (spot_of c.args.s) c.in-Logical.ty c.in-Logical.op (words (spot_of c.args.s) (type_of y)) (coded (spot_of c.args.s) x) (coded (spot_of c.args.s) y)) _ _ _ _ c.in-Logical.is (open-Logical (spot_of c.args.s) c.in-Logical.ty c.in-Logical.op c.in-Logical.left c.in-Logical.right (not_folded (spot_of c.args.s) c.args.e.now _ _ (sym (open_folded (spot_of c.args.s) c.args.e.now _ c.in_ok-bits.ensures.made c.in-Open.is)) refl c.in-Logical.is)) c.get-in-Logical.ensures c.get-in-Logical-2.ensures (subst (λ (ops : List Operation). OnOk c.logical_unless.result (c.logical_unless.new.code ≡ c.args.code.now ++ ops)) (sym (logical_decides (spot_of c.args.s) c.in-Logical.ty c.in-Logical.op (words (spot_of c.args.s) (type_of c.get-in-Logical-2.result.now)) (coded (spot_of c.args.s) c.get-in-Logical.result.now) (coded (spot_of c.args.s) c.get-in-Logical-2.result.now) c.args.to c.args.count)) c.logical_unless.ensures)
 
 pub expr::unless-returns-in_default : goal.expr::unless-returns-in_default
 expr::unless-returns-in_default t c =
-    subst (λ (ops : List Operation). OnOk c.value_unless-in_default.result (c.value_unless-in_default.new.code ≡ c.args.code.now ++ ops)) (sym (decides_rest (spot_of c.args.s) c.args.e.now (sym c.in_ok-bits.ensures ∙ c.in-None.is) c.in_default.not-Unary c.in_default.not-Cast c.in_default.not-Convert c.in_default.not-Not c.in_default.not-Binary c.in_default.not-Logical c.args.to c.args.count)) c.value_unless-in_default.ensures
-
-pub expr::pointer-returns-in-Some : goal.expr::pointer-returns-in-Some
-expr::pointer-returns-in-Some t c =
-    subst (λ (ops : List Operation). OnOk c.value.result (c.value.new.code ≡ c.args.code.now ++ ops)) (sym (constant_points (spot_of c.args.s) c.args.e.now _ c.args.lasting c.args.to (sym c.in_ok-folded.ensures ∙ c.in-Some.is))) c.value.ensures
+    subst (λ (ops : List Operation). OnOk c.used-in_default.result (c.used-in_default.new.code ≡ c.args.code.now ++ ops)) (sym (decides_rest (spot_of c.args.s) c.args.e.now (open_folded (spot_of c.args.s) c.args.e.now _ c.in_ok-bits.ensures.made c.in-Open.is) (open_same (spot_of c.args.s) c.args.e.now _ c.in_ok-bits.ensures.made c.in-Open.is) c.in_default.not-Not c.in_default.not-Binary c.in_default.not-Logical c.args.to c.args.count)) c.used-in_default.ensures
 
 pub expr::pointer-returns-in-Decay : goal.expr::pointer-returns-in-Decay
 expr::pointer-returns-in-Decay t c =
@@ -238,17 +242,9 @@ pub expr::pointer-returns-in-Address : goal.expr::pointer-returns-in-Address
 expr::pointer-returns-in-Address t c =
     by_part (λ (x : Coded). OnOk c.place-in-Address.result (c.place-in-Address.new.code ≡ c.args.code.now ++ x.pointer c.args.lasting c.args.to)) (spot_of c.args.s) c.args.e.now _ (λ (x : TPlace). address_coded (spot_of c.args.s) c.in-Address.ty (placed (spot_of c.args.s) x)) _ _ c.in-Address.is (coded-Address (spot_of c.args.s) c.in-Address.ty c.in-Address.at) c.get-in-Address.ensures c.place-in-Address.ensures
 
-pub expr::pointer-returns-in-Unary : goal.expr::pointer-returns-in-Unary
-expr::pointer-returns-in-Unary t c =
-    by_unary (λ (x : Coded). OnOk c.unary_pointer.result (c.unary_pointer.new.code ≡ c.args.code.now ++ x.pointer c.args.lasting c.args.to)) (spot_of c.args.s) c.args.e.now _ _ _ _ _ c.in_ok-folded.ensures c.in-None.is c.in-Unary.is c.get-in-Unary.ensures c.unary_pointer.ensures
-
-pub expr::pointer-returns-in-Cast : goal.expr::pointer-returns-in-Cast
-expr::pointer-returns-in-Cast t c =
-    by_conversion (λ (x : Coded). OnOk c.converted_pointer.result (c.converted_pointer.new.code ≡ c.args.code.now ++ x.pointer c.args.lasting c.args.to)) (spot_of c.args.s) c.args.e.now _ _ _ _ c.in_ok-folded.ensures c.in-None.is c.in-Cast.is c.get-in-Cast.ensures c.converted_pointer.ensures
-
 pub expr::pointer-returns-in_default : goal.expr::pointer-returns-in_default
 expr::pointer-returns-in_default t c =
-    subst (λ (ops : List Operation). OnOk c.value_pointer.result (c.value_pointer.new.code ≡ c.args.code.now ++ ops)) (sym (points_rest (spot_of c.args.s) c.args.e.now (sym c.in_ok-folded.ensures ∙ c.in-None.is) c.in_default.not-Decay c.in_default.not-Address c.in_default.not-Unary c.in_default.not-Cast c.in_default.not-Convert c.args.lasting c.args.to)) c.value_pointer.ensures
+    subst (λ (ops : List Operation). OnOk c.value_pointer.result (c.value_pointer.new.code ≡ c.args.code.now ++ ops)) (sym (points_rest (spot_of c.args.s) c.args.e.now (open_folded (spot_of c.args.s) c.args.e.now _ c.in_ok-form_of.ensures.made c.in-Open.is) (open_same (spot_of c.args.s) c.args.e.now _ c.in_ok-form_of.ensures.made c.in-Open.is) c.in_default.not-Decay c.in_default.not-Address c.args.lasting c.args.to)) c.value_pointer.ensures
 
 pub expr::place-returns-in-Global : goal.expr::place-returns-in-Global
 expr::place-returns-in-Global t c =
@@ -270,38 +266,6 @@ pub expr::place-returns-in-Member : goal.expr::place-returns-in-Member
 expr::place-returns-in-Member t c =
     place_by_part (λ (x : Placed). OnOk c.place.result (c.place.new.code ≡ c.args.code.now ++ x.code c.args.lasting c.args.to)) (spot_of c.args.s) c.args.p.now _ (λ (x : TPlace). member_placed (path_offset c.args.s.program.now (place_type x) c.in-Member.path) (placed (spot_of c.args.s) x)) _ _ c.in-Member.is (placed-Member (spot_of c.args.s) c.in-Member.ty c.in-Member.of c.in-Member.path) c.get-in-Member.ensures c.place.ensures
 
-pub conversions::converted_value-returns-then-stays : goal.conversions::converted_value-returns-then-stays
-conversions::converted_value-returns-then-stays t c =
-    subst (λ (x : Coded). OnOk c.value.result (c.value.new.code ≡ c.args.code.now ++ x.value c.args.dest c.args.to)) (sym (converted_stays (spot_of c.args.s) (type_of c.args.of.now) c.args.into.now (coded (spot_of c.args.s) c.args.of.now) (ap (λ (t : Ty). stays t c.args.into.now) (sym c.ty.ensures) ∙ sym c.stays.ensures ∙ c.if-stays.true))) c.value.ensures
-
-pub conversions::converted_value-returns-else-stays : goal.conversions::converted_value-returns-else-stays
-conversions::converted_value-returns-else-stays t c =
-    subst (λ (ops : List Operation). OnOk c.changed_value.result (c.changed_value.new.code ≡ c.args.code.now ++ ops)) (sym (converted_changes (spot_of c.args.s) (type_of c.args.of.now) c.args.into.now (coded (spot_of c.args.s) c.args.of.now) c.args.dest c.args.to (ap (λ (t : Ty). stays t c.args.into.now) (sym c.ty.ensures) ∙ sym c.stays.ensures ∙ c.if-stays.false))) c.changed_value.ensures
-
-pub conversions::converted_effect-returns-then-stays : goal.conversions::converted_effect-returns-then-stays
-conversions::converted_effect-returns-then-stays t c =
-    subst (λ (x : Coded). OnOk c.effect.result (c.effect.new.code ≡ c.args.code.now ++ x.effect c.args.to)) (sym (converted_stays (spot_of c.args.s) (type_of c.args.of.now) c.args.into.now (coded (spot_of c.args.s) c.args.of.now) (ap (λ (t : Ty). stays t c.args.into.now) (sym c.ty.ensures) ∙ sym c.stays.ensures ∙ c.if-stays.true))) c.effect.ensures
-
-pub conversions::converted_effect-returns-else-stays : goal.conversions::converted_effect-returns-else-stays
-conversions::converted_effect-returns-else-stays t c =
-    subst (λ (ops : List Operation). OnOk c.changed_value.result (c.changed_value.new.code ≡ c.args.code.now ++ ops)) (sym (converted_drops (spot_of c.args.s) (type_of c.args.of.now) c.args.into.now (coded (spot_of c.args.s) c.args.of.now) c.args.to (ap (λ (t : Ty). stays t c.args.into.now) (sym c.ty.ensures) ∙ sym c.stays.ensures ∙ c.if-stays.false))) c.changed_value.ensures
-
-pub conversions::converted_unless-returns-then-stays : goal.conversions::converted_unless-returns-then-stays
-conversions::converted_unless-returns-then-stays t c =
-    subst (λ (x : Coded). OnOk c.unless.result (c.unless.new.code ≡ c.args.code.now ++ x.unless c.args.to c.args.count)) (sym (converted_stays (spot_of c.args.s) (type_of c.args.of.now) c.args.into.now (coded (spot_of c.args.s) c.args.of.now) (ap (λ (t : Ty). stays t c.args.into.now) (sym c.ty.ensures) ∙ sym c.stays.ensures ∙ c.if-stays.true))) c.unless.ensures
-
-pub conversions::converted_unless-returns-else-stays : goal.conversions::converted_unless-returns-else-stays
-conversions::converted_unless-returns-else-stays t c =
-    subst (λ (ops : List Operation). OnOk c.changed_unless.result (c.changed_unless.new.code ≡ c.args.code.now ++ ops)) (sym (converted_decides (spot_of c.args.s) (type_of c.args.of.now) c.args.into.now (coded (spot_of c.args.s) c.args.of.now) c.args.to c.args.count (ap (λ (t : Ty). stays t c.args.into.now) (sym c.ty.ensures) ∙ sym c.stays.ensures ∙ c.if-stays.false))) c.changed_unless.ensures
-
-pub conversions::converted_pointer-returns-then-stays : goal.conversions::converted_pointer-returns-then-stays
-conversions::converted_pointer-returns-then-stays t c =
-    subst (λ (x : Coded). OnOk c.pointer.result (c.pointer.new.code ≡ c.args.code.now ++ x.pointer c.args.lasting c.args.to)) (sym (converted_stays (spot_of c.args.s) (type_of c.args.of.now) c.args.into.now (coded (spot_of c.args.s) c.args.of.now) (ap (λ (t : Ty). stays t c.args.into.now) (sym c.ty.ensures) ∙ sym c.stays.ensures ∙ c.if-stays.true))) c.pointer.ensures
-
-pub conversions::converted_pointer-returns-else-stays : goal.conversions::converted_pointer-returns-else-stays
-conversions::converted_pointer-returns-else-stays t c =
-    subst (λ (ops : List Operation). OnOk c.changed_value.result (c.changed_value.new.code ≡ c.args.code.now ++ ops)) (sym (converted_points (spot_of c.args.s) (type_of c.args.of.now) c.args.into.now (coded (spot_of c.args.s) c.args.of.now) c.args.lasting c.args.to (ap (λ (t : Ty). stays t c.args.into.now) (sym c.ty.ensures) ∙ sym c.stays.ensures ∙ c.if-stays.false))) c.changed_value.ensures
-
 pub actions::targets-loop-x-preserved : goal.actions::targets-loop-x-preserved
 actions::targets-loop-x-preserved t c =
     rw (c.in_ok-target.ensures, c.in_ok-at.ensures, c.in_ok-count_targets.ensures)
@@ -322,31 +286,6 @@ actions::target-returns-in-Parts t c =
     subst (λ (a : Aimed). OnOk c.targets.result (c.targets.new.code ≡ c.args.code.now ++ a.code c.args.to))
     (sym (ap (aimed (spot_of c.args.s)) c.in-Parts.is ∙ aimed-Parts (spot_of c.args.s) c.in-Parts.ty c.in-Parts.parts ∙ ap (aimed_of (spot_of c.args.s)) (sym c.as_slice.ensures.value)))
     c.targets.ensures
-
-pub calls::received-returns-in-Place : goal.calls::received-returns-in-Place
-calls::received-returns-in-Place t c =
-    subst (λ (g : Given). OnOk c.received_place.result (c.received_place.new.code ≡ c.args.code.now ++ g.code c.args.to))
-    (sym (ap (received_object (spot_of c.args.s)) c.in-Place.is ∙ received_object-Place (spot_of c.args.s) c.in-Place.place c.in-Place.path c.in-Place.passed
-    ∙ ap₂ (λ (x : TPlace) (path : List ℕ). object_placed (spot_of c.args.s) c.in-Place.passed (place_type x) path (placed (spot_of c.args.s) x)) (sym c.get.ensures) (sym c.as_slice.ensures.value)))
-    c.received_place.ensures
-
-pub calls::received-returns-in-Value : goal.calls::received-returns-in-Value
-calls::received-returns-in-Value t c =
-    subst (λ (g : Given). OnOk c.received_value.result (c.received_value.new.code ≡ c.args.code.now ++ g.code c.args.to))
-    (sym (ap (received_object (spot_of c.args.s)) c.in-Value.is ∙ received_object-Value (spot_of c.args.s) c.in-Value.value c.in-Value.path c.in-Value.passed
-    ∙ ap₂ (λ (e : TExpr) (path : List ℕ). object_valued (spot_of c.args.s) c.in-Value.passed (type_of e) path (coded (spot_of c.args.s) e)) (sym c.get-in-Value.ensures) (sym c.as_slice-in-Value.ensures.value)))
-    c.received_value.ensures
-
-pub calls::received-returns-in-Pointer : goal.calls::received-returns-in-Pointer
-calls::received-returns-in-Pointer t c =
-    subst (λ (g : Given). OnOk c.received_pointed.result (c.received_pointed.new.code ≡ c.args.code.now ++ g.code c.args.to))
-    (sym (ap (received_object (spot_of c.args.s)) c.in-Pointer.is ∙ received_object-Pointer (spot_of c.args.s) c.in-Pointer.pointer c.in-Pointer.path c.in-Pointer.passed
-    ∙ ap₂ (λ (e : TExpr) (path : List ℕ). object_pointed (spot_of c.args.s) c.in-Pointer.passed (type_of e) path (coded (spot_of c.args.s) e)) (sym c.get-in-Pointer.ensures) (sym c.as_slice-in-Pointer.ensures.value)))
-    c.received_pointed.ensures
-
-pub calls::argument_values-returns : goal.calls::argument_values-returns
-calls::argument_values-returns t c =
-    subst (λ (xs : List TExpr). OnOk c.row_values.result (c.row_values.new.code ≡ c.args.code.now ++ (row_of (spot_of c.args.s) xs).values c.args.to)) c.as_slice.ensures.value c.row_values.ensures
 
 pub actions::assign-returns-in-Into-clause-code : goal.actions::assign-returns-in-Into-clause-code
 actions::assign-returns-in-Into-clause-code t c =
@@ -384,14 +323,113 @@ actions::assign-returns-in-Parts-clause-slot t c =
     (parts_slot (aimed (spot_of c.args.s) c.args.x.now) (coded (spot_of c.args.s) c.args.e.now) c.args.to (ap (λ (x : TTarget). (aimed (spot_of c.args.s) x).single) c.in-Parts.is ∙ ap (λ (a : Aimed). a.single) (aimed-Parts (spot_of c.args.s) c.in-Parts.ty c.in-Parts.parts) ∙ row_has_no_single (spot_of c.args.s) c.in-Parts.parts))
     c.assign_parts-in-Parts.ensures.slot
 
-pub actions::assign_value-returns : goal.actions::assign_value-returns
-actions::assign_value-returns t c =
-    then_ok c.moves.result _ _ _ _ _ _ c.in_ok-slot.ensures.code
-    (ap₂ (λ (slot n : ℕ). (assign_coded (spot_of c.args.s) c.args.ty.now (aimed (spot_of c.args.s) c.args.x.now) (coded (spot_of c.args.s) c.args.e.now)).effect c.args.to ++ moves c.args.s.line c.args.dest slot n) c.in_ok-slot.ensures.slot c.in_ok-words.ensures
-    ∙ assigned_value (spot_of c.args.s) c.args.ty.now (aimed (spot_of c.args.s) c.args.x.now) (coded (spot_of c.args.s) c.args.e.now) c.args.dest c.args.to)
-    c.moves.ensures
+pub calls::received-returns-in-Place : goal.calls::received-returns-in-Place
+calls::received-returns-in-Place t c =
+    subst (λ (g : Given). OnOk c.found.result (c.found.new.code ≡ c.args.code.now ++ g.code c.args.to))
+    (sym (ap (received_object (spot_of c.args.s)) c.in-Place.is ∙ received_object-Place (spot_of c.args.s) c.in-Place.place c.in-Place.path c.in-Place.passed
+    ∙ ap₂ (λ (x : TPlace) (path : List ℕ). object_placed (spot_of c.args.s) c.in-Place.passed (place_type x) path (placed (spot_of c.args.s) x)) (sym c.get.ensures) (sym c.as_slice-path.ensures.value)))
+    (as_ok c.found.result _ _ _ _ (found_object (spot_of c.args.s) c.in-Place.passed _ _ _ c.args.to) c.found.ensures)
 
-pub actions::change-returns-in-Apply : goal.actions::change-returns-in-Apply
-actions::change-returns-in-Apply t c =
-    subst (λ (how : Change). OnOk c.apply.result (c.apply.new.code ≡ c.args.code.now ++ change_code (spot_of c.args.s) c.args.ty.now how (coded (spot_of c.args.s) c.args.e.now) c.args.new c.args.old c.args.to))
-    (sym c.in-Apply.is) (c.apply.ensures c.args.ty.now)
+pub calls::received-returns-in-Value : goal.calls::received-returns-in-Value
+calls::received-returns-in-Value t c =
+    subst (λ (g : Given). OnOk c.received_value.result (c.received_value.new.code ≡ c.args.code.now ++ g.code c.args.to))
+    (sym (ap (received_object (spot_of c.args.s)) c.in-Value.is ∙ received_object-Value (spot_of c.args.s) c.in-Value.value c.in-Value.path c.in-Value.passed
+    ∙ ap₂ (λ (e : TExpr) (path : List ℕ). object_valued (spot_of c.args.s) c.in-Value.passed (type_of e) path (coded (spot_of c.args.s) e)) (sym c.get-in-Value.ensures) (sym c.as_slice.ensures.value)))
+    c.received_value.ensures
+
+pub calls::received-returns-in-Pointer : goal.calls::received-returns-in-Pointer
+calls::received-returns-in-Pointer t c =
+    subst (λ (g : Given). OnOk c.received_pointed.result (c.received_pointed.new.code ≡ c.args.code.now ++ g.code c.args.to))
+    (sym (ap (received_object (spot_of c.args.s)) c.in-Pointer.is ∙ received_object-Pointer (spot_of c.args.s) c.in-Pointer.pointer c.in-Pointer.path c.in-Pointer.passed
+    ∙ ap₂ (λ (e : TExpr) (path : List ℕ). object_pointed (spot_of c.args.s) c.in-Pointer.passed (type_of e) path (coded (spot_of c.args.s) e)) (sym c.get-in-Pointer.ensures) (sym c.as_slice-in-Pointer.ensures.value)))
+    c.received_pointed.ensures
+
+pub actions::assigns-returns : goal.actions::assigns-returns
+actions::assigns-returns t c =
+    then_ok c.kept.result _ _ _ _ _ _ c.in_ok-slot.ensures.code
+    (ap (λ (slot : ℕ). (assign_coded (spot_of c.args.s) c.args.ty.now (aimed (spot_of c.args.s) c.args.x.now) (coded (spot_of c.args.s) c.args.e.now)).effect c.args.to ++ kept (spot_of c.args.s) c.args.ty.now c.args.dest slot) c.in_ok-slot.ensures.slot
+    ∙ assignment (spot_of c.args.s) c.args.ty.now (aimed (spot_of c.args.s) c.args.x.now) (coded (spot_of c.args.s) c.args.e.now) c.args.dest c.args.to)
+    c.kept.ensures
+
+pub actions::change-returns-then-branch : goal.actions::change-returns-then-branch
+actions::change-returns-then-branch t c =
+    all_made (spot_of c.args.s) c.args.ty.now c.args.how (coded (spot_of c.args.s) c.args.e.now) c.args.new c.args.old c.args.code.now c.change_constant.new.code _ c.in_ok-change_constant.ensures c.if-branch.true c.args.to
+
+pub actions::change-returns : goal.actions::change-returns
+actions::change-returns t c =
+    then_ok c.change_by.result _ _ _ _ _ _
+    (c.in_ok-right.ensures.code ∙ ap (λ (ops : List Operation). ops ++ operand_code (coded (spot_of c.args.s) c.args.e.now) c.args.to) (none_made (spot_of c.args.s) c.args.ty.now c.args.how (coded (spot_of c.args.s) c.args.e.now) c.args.new c.args.old c.args.code.now c.change_constant.new.code _ c.in_ok-change_constant.ensures c.if-branch.false))
+    (ap (λ (slot : ℕ). operand_code (coded (spot_of c.args.s) c.args.e.now) c.args.to ++ change_by (spot_of c.args.s) c.args.ty.now c.args.how c.args.new c.args.old slot) c.in_ok-right.ensures.slot
+    ∙ sym (left_to_make (spot_of c.args.s) c.args.ty.now c.args.how (coded (spot_of c.args.s) c.args.e.now) c.args.new c.args.old c.args.code.now c.change_constant.new.code _ c.in_ok-change_constant.ensures c.if-branch.false c.args.to))
+    c.change_by.ensures
+
+pub actions::update_at-returns : goal.actions::update_at-returns
+actions::update_at-returns t c =
+    then_all c.kept.result _ _ _ _ _ _ _ _ _ _ c.in_ok-it.ensures.code c.in_ok-change.ensures c.in_ok-end_update.ensures
+    (update_by (spot_of c.args.s) c.args.ty.now c.args.how (coded (spot_of c.args.s) c.args.e.now) (where_of c.args.at) c.args.dest c.args.to _ _ _ c.in_ok-it.ensures.new c.in_ok-it.ensures.old c.in_ok-it.ensures.free)
+    c.kept.ensures
+
+pub actions::update-returns : goal.actions::update-returns
+actions::update-returns t c =
+    then_ok c.update_at.result _ _ _ _ _ _ c.in_ok-place.ensures
+    (placed_update_by (spot_of c.args.s) c.args.ty.now (placed (spot_of c.args.s) c.args.x.now) c.args.how (coded (spot_of c.args.s) c.args.e.now) c.args.dest c.args.to _ _ c.in_ok-lasting.ensures c.in_ok-at.ensures)
+    c.update_at.ensures
+
+pub actions::stepped-returns-then-branch : goal.actions::stepped-returns-then-branch
+actions::stepped-returns-then-branch t c =
+    is_stepped (spot_of c.args.s) c.args.ty.now c.args.how (placed (spot_of c.args.s) c.args.x.now) c.args.dest c.args.to c.args.code.now c.step_slots.new.code _ c.in_ok-step_slots.ensures c.if-branch.true
+
+pub actions::stepped-returns : goal.actions::stepped-returns
+actions::stepped-returns t c =
+    then_ok c.step_found.result _ _ _ _ _ _
+    (c.in_ok-place.ensures ∙ ap (λ (ops : List Operation). ops ++ (placed (spot_of c.args.s) c.args.x.now).code false c.args.to) (not_stepped (spot_of c.args.s) c.args.ty.now c.args.how (placed (spot_of c.args.s) c.args.x.now) c.args.dest c.args.to c.args.code.now c.step_slots.new.code _ c.in_ok-step_slots.ensures c.if-branch.false).0)
+    (step_is (spot_of c.args.s) c.args.ty.now c.args.how (placed (spot_of c.args.s) c.args.x.now) c.args.dest c.args.to (not_stepped (spot_of c.args.s) c.args.ty.now c.args.how (placed (spot_of c.args.s) c.args.x.now) c.args.dest c.args.to c.args.code.now c.step_slots.new.code _ c.in_ok-step_slots.ensures c.if-branch.false).1)
+    c.step_found.ensures
+
+pub calls::arguments-returns : goal.calls::arguments-returns
+calls::arguments-returns t c =
+    then_ok c.row_values.result _ _ _ _ _ _ c.in_ok-object.ensures
+    (arguments_by (spot_of c.args.s) (object_of (spot_of c.args.s) c.args.object.now) c.args.arguments.now _ c.args.to _ _ c.as_slice.ensures.value c.in_ok-behind.ensures c.in_ok-object_words.ensures)
+    c.row_values.ensures
+
+pub calls::call-returns : goal.calls::call-returns
+calls::call-returns t c =
+    then_ok c.called.result _ _ _ _ _ _ c.in_ok-arguments.ensures
+    (call_is (spot_of c.args.s) c.args.ty.now c.args.function (object_of (spot_of c.args.s) c.args.receiver.now) (row_of (spot_of c.args.s) c.args.given.now) c.args.dest c.args.to)
+    c.called.ensures
+
+pub calls::call_pointer-returns : goal.calls::call_pointer-returns
+calls::call_pointer-returns t c =
+    then_both c.called_pointer.result _ _ _ _ _ _ _ _ c.in_ok-value.ensures c.in_ok-row_values.ensures
+    (pointed_call_by (spot_of c.args.s) c.args.ty.now (class_number c.args.s.program.now (pointee (type_of c.args.e.now))) (coded (spot_of c.args.s) c.args.e.now) c.args.given.now _ c.args.dest c.args.to _ c.as_slice.ensures.value c.in_ok-slot_behind.ensures)
+    (subst (λ (t : Ty). OnOk c.called_pointer.result (c.called_pointer.new.code ≡ c.row_values.new.code ++ called_pointer (spot_of c.args.s) (class_number c.args.s.program.now (pointee t)) c.args.ty.now c.args.dest c.args.to)) c.ty.ensures c.called_pointer.ensures)
+
+pub calls::print_value-returns : goal.calls::print_value-returns
+calls::print_value-returns t c =
+    then_ok c.print_pieces.result _ _ _ _ _ _ c.in_ok-row_values.ensures
+    (ap (λ (xs : List TExpr). (row_of (spot_of c.args.s) xs).values c.args.to ++ pieces_code (spot_of c.args.s) c.args.format.now (map type_of c.args.given.now) c.args.to) c.as_slice.ensures.value)
+    c.print_pieces.ensures
+
+pub forms::move_value-returns-in-Some : goal.forms::move_value-returns-in-Some
+forms::move_value-returns-in-Some t c =
+    as_ok c.used.result _ _ _ _
+    (known_by (spot_of c.args.s) c.args.ty.now c.args.movement (coded (spot_of c.args.s) c.args.pointer.now) (coded (spot_of c.args.s) c.args.count.now) c.args.dest c.args.to c.in-Some.n _ _ c.is_back.ensures c.in_ok-size.ensures (sym c.in_ok-n.ensures ∙ c.in-Some.is))
+    c.used.ensures
+
+pub forms::move_value-returns-in-Forward : goal.forms::move_value-returns-in-Forward
+forms::move_value-returns-in-Forward t c =
+    as_ok c.joined.result _ _ _ _
+    (forward_by (spot_of c.args.s) c.args.ty.now c.args.movement (coded (spot_of c.args.s) c.args.pointer.now) (coded (spot_of c.args.s) c.args.count.now) c.args.dest c.args.to _ c.in_ok-size.ensures c.in-Forward.is (sym c.in_ok-n.ensures ∙ c.in-None.is))
+    c.joined.ensures
+
+pub forms::move_value-returns-in-CountFirst : goal.forms::move_value-returns-in-CountFirst
+forms::move_value-returns-in-CountFirst t c =
+    as_ok c.joined-in-CountFirst.result _ _ _ _
+    (counted_by (spot_of c.args.s) c.args.ty.now c.args.movement (coded (spot_of c.args.s) c.args.pointer.now) (coded (spot_of c.args.s) c.args.count.now) c.args.dest c.args.to _ c.in_ok-size.ensures c.in-CountFirst.is (sym c.in_ok-n.ensures ∙ c.in-None.is))
+    c.joined-in-CountFirst.ensures
+
+pub forms::move_value-returns-in-Back : goal.forms::move_value-returns-in-Back
+forms::move_value-returns-in-Back t c =
+    as_ok c.joined-in-Back.result _ _ _ _
+    (back_by (spot_of c.args.s) c.args.ty.now c.args.movement (coded (spot_of c.args.s) c.args.pointer.now) (coded (spot_of c.args.s) c.args.count.now) c.args.dest c.args.to _ c.in_ok-size.ensures c.in-Back.is (sym c.in_ok-n.ensures ∙ c.in-None.is))
+    c.joined-in-Back.ensures

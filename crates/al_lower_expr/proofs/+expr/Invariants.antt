@@ -19,9 +19,6 @@ decreases-expr::dropped l = 32 * size-TExpr l.e.now + 2
 abbrev pub decreases-expr::value_pointer : goal.decreases-expr::value_pointer
 decreases-expr::value_pointer l = 32 * size-TExpr l.e.now + 3
 
-abbrev pub decreases-expr::value_unless : goal.decreases-expr::value_unless
-decreases-expr::value_unless l = 32 * size-TExpr l.e.now + 2
-
 abbrev pub decreases-expr::first : goal.decreases-expr::first
 decreases-expr::first l = 32 * size-TExpr l.e.now + 2
 
@@ -34,9 +31,6 @@ decreases-expr::unless l = 32 * size-TExpr l.e.now + 4
 abbrev pub decreases-expr::pointer : goal.decreases-expr::pointer
 decreases-expr::pointer l = 32 * size-TExpr l.e.now + 4
 
-abbrev pub decreases-expr::pair : goal.decreases-expr::pair
-decreases-expr::pair l = 32 * max (size-TExpr l.left.now) (size-TExpr l.right.now) + 3
-
 abbrev pub decreases-expr::place : goal.decreases-expr::place
 decreases-expr::place l = 32 * size-TPlace l.p.now
 
@@ -46,83 +40,23 @@ decreases-expr::row_values l = 32 * goal.size-expr::row_values l + 4
 abbrev pub decreases-expr::row_effects : goal.decreases-expr::row_effects
 decreases-expr::row_effects l = 32 * goal.size-expr::row_effects l + 5
 
-abbrev pub decreases-forms::load_value : goal.decreases-forms::load_value
-decreases-forms::load_value l = 32 * size-TPlace l.p.now + 1
+abbrev pub decreases-forms::used : goal.decreases-forms::used
+decreases-forms::used l = 32 * size-TExpr l.e.now + 2
 
-abbrev pub decreases-forms::address_value : goal.decreases-forms::address_value
-decreases-forms::address_value l = 32 * size-TPlace l.p.now + 1
+abbrev pub decreases-forms::taken : goal.decreases-forms::taken
+decreases-forms::taken l = 32 * size-TExpr l.e.now + 1
 
-abbrev pub decreases-operators::less_value : goal.decreases-operators::less_value
-decreases-operators::less_value l = 32 * size-TExpr l.of.now + 5
+abbrev pub decreases-forms::joined : goal.decreases-forms::joined
+decreases-forms::joined l = 32 * max (size-TExpr l.left.now) (size-TExpr l.right.now) + 3
 
-abbrev pub decreases-operators::complement_value : goal.decreases-operators::complement_value
-decreases-operators::complement_value l = 32 * size-TExpr l.of.now + 6
+abbrev pub decreases-forms::found : goal.decreases-forms::found
+decreases-forms::found l = 32 * size-TPlace l.x.now + 1
 
-abbrev pub decreases-operators::unary_value : goal.decreases-operators::unary_value
-decreases-operators::unary_value l = 32 * size-TExpr l.of.now + 7
-
-abbrev pub decreases-operators::unary_effect : goal.decreases-operators::unary_effect
-decreases-operators::unary_effect l = 32 * size-TExpr l.of.now + 7
-
-abbrev pub decreases-operators::unary_unless : goal.decreases-operators::unary_unless
-decreases-operators::unary_unless l = 32 * size-TExpr l.of.now + 7
-
-abbrev pub decreases-operators::unary_pointer : goal.decreases-operators::unary_pointer
-decreases-operators::unary_pointer l = 32 * size-TExpr l.of.now + 7
-
-abbrev pub decreases-conversions::changed_unless : goal.decreases-conversions::changed_unless
-decreases-conversions::changed_unless l = 32 * size-TExpr l.of.now + 6
-
-abbrev pub decreases-conversions::converted_effect : goal.decreases-conversions::converted_effect
-decreases-conversions::converted_effect l = 32 * size-TExpr l.of.now + 6
-
-abbrev pub decreases-conversions::converted_unless : goal.decreases-conversions::converted_unless
-decreases-conversions::converted_unless l = 32 * size-TExpr l.of.now + 7
-
-abbrev pub decreases-conversions::converted_pointer : goal.decreases-conversions::converted_pointer
-decreases-conversions::converted_pointer l = 32 * size-TExpr l.of.now + 6
-
-abbrev pub decreases-forms::member_of_value : goal.decreases-forms::member_of_value
-decreases-forms::member_of_value l = 32 * size-TExpr l.of.now + 5
-
-abbrev pub decreases-operators::not_value : goal.decreases-operators::not_value
-decreases-operators::not_value l = 32 * size-TExpr l.of.now + 5
-
-abbrev pub decreases-operators::not_unless : goal.decreases-operators::not_unless
-decreases-operators::not_unless l = 32 * size-TExpr l.of.now + 5
-
-abbrev pub decreases-operators::binary_value : goal.decreases-operators::binary_value
-decreases-operators::binary_value l = 32 * max (size-TExpr l.left.now) (size-TExpr l.right.now) + 5
-
-abbrev pub decreases-operators::compare_unless : goal.decreases-operators::compare_unless
-decreases-operators::compare_unless l = 32 * max (size-TExpr l.left.now) (size-TExpr l.right.now) + 5
-
-abbrev pub decreases-operators::truth_value : goal.decreases-operators::truth_value
-decreases-operators::truth_value l = 32 * size-TExpr l.e.now + 5
-
-abbrev pub decreases-operators::logical_value : goal.decreases-operators::logical_value
-decreases-operators::logical_value l = 32 * max (size-TExpr l.left.now) (size-TExpr l.right.now) + 6
-
-abbrev pub decreases-operators::logical_unless : goal.decreases-operators::logical_unless
-decreases-operators::logical_unless l = 32 * max (size-TExpr l.left.now) (size-TExpr l.right.now) + 6
-
-abbrev pub decreases-forms::advance_value : goal.decreases-forms::advance_value
-decreases-forms::advance_value l = 32 * max (size-TExpr l.pointer.now) (size-TExpr l.count.now) + 5
-
-abbrev pub decreases-forms::count_first_value : goal.decreases-forms::count_first_value
-decreases-forms::count_first_value l = 32 * max (size-TExpr l.pointer.now) (size-TExpr l.count.now) + 5
+abbrev pub decreases-forms::changed_value : goal.decreases-forms::changed_value
+decreases-forms::changed_value l = 32 * size-TExpr l.of.now + 3
 
 abbrev pub decreases-forms::move_value : goal.decreases-forms::move_value
-decreases-forms::move_value l = 32 * max (size-TExpr l.pointer.now) (size-TExpr l.count.now) + 6
-
-abbrev pub decreases-forms::difference_value : goal.decreases-forms::difference_value
-decreases-forms::difference_value l = 32 * max (size-TExpr l.left.now) (size-TExpr l.right.now) + 5
-
-abbrev pub decreases-conversions::changed_value : goal.decreases-conversions::changed_value
-decreases-conversions::changed_value l = 32 * size-TExpr l.of.now + 5
-
-abbrev pub decreases-conversions::converted_value : goal.decreases-conversions::converted_value
-decreases-conversions::converted_value l = 32 * size-TExpr l.of.now + 6
+decreases-forms::move_value l = 32 * max (size-TExpr l.pointer.now) (size-TExpr l.count.now) + 4
 
 abbrev pub decreases-forms::tuple_value : goal.decreases-forms::tuple_value
 decreases-forms::tuple_value l = 32 * (most (λ (x : TExpr). size-TExpr x) l.parts.now) + 6
@@ -138,6 +72,21 @@ decreases-forms::indexed l = 32 * max (size-TExpr l.base.now) (size-TExpr l.inde
 
 abbrev pub decreases-forms::element : goal.decreases-forms::element
 decreases-forms::element l = 32 * max (size-TExpr l.base.now) (size-TExpr l.index.now) + 7
+
+abbrev pub decreases-operators::unary_value : goal.decreases-operators::unary_value
+decreases-operators::unary_value l = 32 * size-TExpr l.of.now + 3
+
+abbrev pub decreases-operators::binary_value : goal.decreases-operators::binary_value
+decreases-operators::binary_value l = 32 * max (size-TExpr l.left.now) (size-TExpr l.right.now) + 4
+
+abbrev pub decreases-operators::truth_value : goal.decreases-operators::truth_value
+decreases-operators::truth_value l = 32 * size-TExpr l.e.now + 5
+
+abbrev pub decreases-operators::logical_value : goal.decreases-operators::logical_value
+decreases-operators::logical_value l = 32 * max (size-TExpr l.left.now) (size-TExpr l.right.now) + 6
+
+abbrev pub decreases-operators::logical_unless : goal.decreases-operators::logical_unless
+decreases-operators::logical_unless l = 32 * max (size-TExpr l.left.now) (size-TExpr l.right.now) + 6
 
 abbrev pub invariant-expr::row_values-loop-e : goal.invariant-expr::row_values-loop-e
 invariant-expr::row_values-loop-e l =
@@ -169,62 +118,20 @@ decreases-actions::assign_parts l = 32 * max (size-TTarget l.x.now) (size-TExpr 
 abbrev pub decreases-actions::assign : goal.decreases-actions::assign
 decreases-actions::assign l = 32 * max (size-TTarget l.x.now) (size-TExpr l.e.now) + 6
 
-abbrev pub decreases-actions::assign_value : goal.decreases-actions::assign_value
-decreases-actions::assign_value l = 32 * max (size-TTarget l.x.now) (size-TExpr l.e.now) + 7
-
-abbrev pub decreases-actions::assign_effect : goal.decreases-actions::assign_effect
-decreases-actions::assign_effect l = 32 * max (size-TTarget l.x.now) (size-TExpr l.e.now) + 7
-
-abbrev pub decreases-actions::apply : goal.decreases-actions::apply
-decreases-actions::apply l = 32 * size-TExpr l.e.now + 4
-
-abbrev pub decreases-actions::advance : goal.decreases-actions::advance
-decreases-actions::advance l = 32 * size-TExpr l.e.now + 4
+abbrev pub decreases-actions::assigns : goal.decreases-actions::assigns
+decreases-actions::assigns l = 32 * max (size-TTarget l.x.now) (size-TExpr l.e.now) + 7
 
 abbrev pub decreases-actions::change : goal.decreases-actions::change
-decreases-actions::change l = 32 * size-TExpr l.e.now + 5
-
-abbrev pub decreases-actions::update_home : goal.decreases-actions::update_home
-decreases-actions::update_home l = 32 * size-TExpr l.e.now + 6
-
-abbrev pub decreases-actions::update_stored : goal.decreases-actions::update_stored
-decreases-actions::update_stored l = 32 * size-TExpr l.e.now + 6
+decreases-actions::change l = 32 * size-TExpr l.e.now + 3
 
 abbrev pub decreases-actions::update_at : goal.decreases-actions::update_at
-decreases-actions::update_at l = 32 * size-TExpr l.e.now + 7
+decreases-actions::update_at l = 32 * size-TExpr l.e.now + 4
 
 abbrev pub decreases-actions::update : goal.decreases-actions::update
-decreases-actions::update l = 32 * max (size-TPlace l.x.now) (size-TExpr l.e.now) + 8
+decreases-actions::update l = 32 * max (size-TPlace l.x.now) (size-TExpr l.e.now) + 5
 
-abbrev pub decreases-actions::update_value : goal.decreases-actions::update_value
-decreases-actions::update_value l = 32 * max (size-TPlace l.x.now) (size-TExpr l.e.now) + 9
-
-abbrev pub decreases-actions::update_effect : goal.decreases-actions::update_effect
-decreases-actions::update_effect l = 32 * max (size-TPlace l.x.now) (size-TExpr l.e.now) + 9
-
-abbrev pub decreases-actions::step_place : goal.decreases-actions::step_place
-decreases-actions::step_place l = 32 * size-TPlace l.x.now + 4
-
-abbrev pub decreases-actions::step_value : goal.decreases-actions::step_value
-decreases-actions::step_value l = 32 * size-TPlace l.x.now + 5
-
-abbrev pub decreases-actions::step_effect : goal.decreases-actions::step_effect
-decreases-actions::step_effect l = 32 * size-TPlace l.x.now + 5
-
-abbrev pub decreases-actions::clear_place : goal.decreases-actions::clear_place
-decreases-actions::clear_place l = 32 * size-TPlace l.x.now + 4
-
-abbrev pub decreases-actions::zerox_value : goal.decreases-actions::zerox_value
-decreases-actions::zerox_value l = 32 * size-TPlace l.x.now + 5
-
-abbrev pub decreases-actions::zerox_effect : goal.decreases-actions::zerox_effect
-decreases-actions::zerox_effect l = 32 * size-TPlace l.x.now + 5
-
-abbrev pub decreases-calls::member_value : goal.decreases-calls::member_value
-decreases-calls::member_value l = 32 * size-TExpr l.e.now + 4
-
-abbrev pub decreases-calls::received_place : goal.decreases-calls::received_place
-decreases-calls::received_place l = 32 * size-TPlace l.x.now + 4
+abbrev pub decreases-actions::stepped : goal.decreases-actions::stepped
+decreases-actions::stepped l = 32 * size-TPlace l.x.now + 1
 
 abbrev pub decreases-calls::received_pointed : goal.decreases-calls::received_pointed
 decreases-calls::received_pointed l = 32 * size-TExpr l.e.now + 5
@@ -238,38 +145,14 @@ decreases-calls::received l = 32 * goal.size-calls::received l
 abbrev pub decreases-calls::object : goal.decreases-calls::object
 decreases-calls::object l = 32 * goal.size-calls::object l + 1
 
-abbrev pub decreases-calls::argument_values : goal.decreases-calls::argument_values
-decreases-calls::argument_values l = 32 * goal.size-calls::argument_values l + 5
-
 abbrev pub decreases-calls::arguments : goal.decreases-calls::arguments
 decreases-calls::arguments l = 32 * max (goal.size-calls::arguments l) (most (λ (x : TExpr). size-TExpr x) l.arguments.now) + 8
 
-abbrev pub decreases-calls::call_value : goal.decreases-calls::call_value
-decreases-calls::call_value l = 32 * max (goal.size-calls::call_value l) (most (λ (x : TExpr). size-TExpr x) l.given.now) + 9
+abbrev pub decreases-calls::call : goal.decreases-calls::call
+decreases-calls::call l = 32 * max (goal.size-calls::call l) (most (λ (x : TExpr). size-TExpr x) l.given.now) + 9
 
-abbrev pub decreases-calls::call_effect : goal.decreases-calls::call_effect
-decreases-calls::call_effect l = 32 * max (goal.size-calls::call_effect l) (most (λ (x : TExpr). size-TExpr x) l.given.now) + 9
-
-abbrev pub decreases-calls::call_pointer_effect : goal.decreases-calls::call_pointer_effect
-decreases-calls::call_pointer_effect l = 32 * max (size-TExpr l.e.now) (most (λ (x : TExpr). size-TExpr x) l.given.now) + 8
-
-abbrev pub decreases-calls::call_pointer_value : goal.decreases-calls::call_pointer_value
-decreases-calls::call_pointer_value l = 32 * max (size-TExpr l.e.now) (most (λ (x : TExpr). size-TExpr x) l.given.now) + 9
+abbrev pub decreases-calls::call_pointer : goal.decreases-calls::call_pointer
+decreases-calls::call_pointer l = 32 * max (size-TExpr l.e.now) (most (λ (x : TExpr). size-TExpr x) l.given.now) + 8
 
 abbrev pub decreases-calls::print_value : goal.decreases-calls::print_value
 decreases-calls::print_value l = 32 * most (λ (x : TExpr). size-TExpr x) l.given.now + 6
-
-abbrev pub decreases-calls::terminate_value : goal.decreases-calls::terminate_value
-decreases-calls::terminate_value l = 32 * size-TExpr l.e.now + 4
-
-abbrev pub decreases-calls::receive_value : goal.decreases-calls::receive_value
-decreases-calls::receive_value l = 32 * size-TExpr l.e.now + 4
-
-abbrev pub decreases-calls::can_receive_value : goal.decreases-calls::can_receive_value
-decreases-calls::can_receive_value l = 32 * size-TExpr l.e.now + 4
-
-abbrev pub decreases-calls::can_send_value : goal.decreases-calls::can_send_value
-decreases-calls::can_send_value l = 32 * size-TExpr l.e.now + 4
-
-abbrev pub decreases-calls::send_value : goal.decreases-calls::send_value
-decreases-calls::send_value l = 32 * max (size-TExpr l.chan.now) (size-TExpr l.e.now) + 5

@@ -2,8 +2,8 @@ use Rattle.std.proofs.Common.{◌≡◌, ◌+◌, List, map, drop, OnOk, subst}
 use Rattle.al_typed.specs.Typed.{type_of}
 use Rattle.al_ir.specs.declared.ir.Operation.{Operation}
 use Rattle.al_lower_base.specs.Spots.{spot_of}
-use Rattle.al_lower_expr.proofs.Printed.{with_piece, with_end}
-use Rattle.al_lower_expr.proofs.printing.put_pieces.Goals as goal
+use Rattle.al_lower_forms.proofs.Printed.{with_piece, with_end}
+use Rattle.al_lower_forms.proofs.printing.put_pieces.Goals as goal
 
 pub loop-piece-preserved : goal.loop-piece-preserved
 loop-piece-preserved c =

@@ -2,7 +2,7 @@ use Rattle.std.proofs.Common.{◌≡◌, ◌++◌, map, drop}
 use Rattle.al_typed.specs.Typed.{type_of}
 use Rattle.al_lower_code.specs.Actions.{pieces_code}
 use Rattle.al_lower_base.specs.Spots.{spot_of}
-use Rattle.al_lower_expr.proofs.printing.put_pieces.Given as goal
+use Rattle.al_lower_forms.proofs.printing.put_pieces.Given as goal
 
 abbrev pub invariant-loop-piece : goal.invariant-loop-piece
 invariant-loop-piece l =

@@ -4,7 +4,7 @@ ghost use Rattle.al_typed.specs.Layout.{IsLaidOut};
 ghost use Rattle.al_typed.specs.Typed.{type_of};
 ghost use Rattle.al_typed.specs.declared.expression.PrintPiece.{PrintPiece as PieceSpec};
 ghost use Rattle.al_lower_code.specs.Actions as acts;
-ghost use Rattle.al_lower_expr.specs.Pieces as spec;
+ghost use Rattle.al_lower_forms.specs.Pieces as spec;
 ghost use Rattle.al_lower_base.specs.Spots.{spot_of};
 
 use al_base::{Kind, NoMemory};

@@ -1,6 +1,6 @@
--- Pieces of a format.
-use Rattle.std.specs.Prelude.{ℕ, List, [], true, false, Option, Some, None}
-use Rattle.al_typed.specs.declared.ty.Ty.{Ty}
+-- Pieces of a format, and types of integers.
+use Rattle.std.specs.Prelude.{ℕ, Bool, List, [], true, false, Option, Some, None}
+use Rattle.al_typed.specs.declared.ty.Ty.{Ty, Integer}
 use Rattle.al_typed.specs.declared.expression.PrintPiece.{PrintPiece}
 use Rattle.al_typed.specs.declared.expression.PrintPiece.TheVariants as print
 use Rattle.al_meaning.specs.Shown.{kind_of}
@@ -28,3 +28,7 @@ byte_of print.Signed = None
 byte_of print.Unsigned = None
 byte_of print.Hexadecimal = None
 byte_of print.Character = None
+
+abbrev pub is_integer : Ty → Bool
+is_integer (Integer k) = true
+is_integer _ = false

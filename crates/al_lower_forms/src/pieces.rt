@@ -4,7 +4,7 @@ ghost use Rattle.al_ir.specs.declared.op.Op.TheVariants as op;
 ghost use Rattle.al_lower_code.specs.Homes as homes;
 ghost use Rattle.al_lower_code.specs.Operators as operators;
 ghost use Rattle.al_lower_base.specs.Spots.{spot_of};
-ghost use Rattle.al_lower_expr.specs.Computed as computed;
+ghost use Rattle.al_lower_forms.specs.Pieces as spec;
 
 use al_base::{Kind, NoMemory};
 use al_ir::Op;
@@ -75,7 +75,7 @@ pub fn offset(
 
 /// Whether a type is one of integers.
 pub fn is_integer(ty: &Ty) -> bool
-    ensures { result ≡ computed.is_integer ty.now }
+    ensures { result ≡ spec.is_integer ty.now }
 {
     matches!(ty, Ty::Integer(_))
 }

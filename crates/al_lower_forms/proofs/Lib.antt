@@ -1,0 +1,4 @@
+pub mod ByConstants
+pub mod Printed
+pub mod SameParts
+pub mod Stepping

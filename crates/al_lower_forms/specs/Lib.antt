@@ -1,0 +1,9 @@
+pub mod Calls
+pub mod Finds
+pub mod Joins
+pub mod Pieces
+pub mod Same
+pub mod Steps
+pub mod Takes
+pub mod Updates
+pub mod Uses
