@@ -1,2 +1,4 @@
 pub mod SameIs
 pub mod ConversionsAre
+pub mod RowItems
+pub mod Alikes

@@ -61,19 +61,19 @@ all_clear end n (b ∷ store) h =
     (and_left (nat_lt end (b.at + length b.bytes)) (nat_lt b.at (end + n)) (le-ltb end (b.at + length b.bytes) h.0)) (all_clear end n store h.1)
 
 module _ (region : ℕ) (store : List Live) (end n : ℕ) (F : Filled store end) (some : 1 ≤ n) where
-  located : (at : ℕ) → IsLeast region (spans_of store) n at → (at ≡ end) × (at + n ≤ region_base + region)
+  pub end_place : end + n ≤ region_base + region → IsPlace region (spans_of store) n end
+  end_place le = record {
+    from_base = F.from;
+    aligned = F.aligned;
+    room = and_from _ _ (le-leb (end + n) (region_base + region) le) (ap not (all_clear end n store F.before));
+  }
+
+  pub located : (at : ℕ) → IsLeast region (spans_of store) n at → (at ≡ end) × (at + n ≤ region_base + region)
   located at l =
       let room = and_parts (nat_le (at + n) (region_base + region)) (not (list_any (overlaps at n) (spans_of store))) l.place.room in
       let inside : at + n ≤ region_base + region = leb-true (at + n) (region_base + region) room.0 in
       (on (cases_order at end) room.1 inside, inside)
     where
-      end_place : end + n ≤ region_base + region → IsPlace region (spans_of store) n end
-      end_place le = record {
-        from_base = F.from;
-        aligned = F.aligned;
-        room = and_from _ _ (le-leb (end + n) (region_base + region) le) (ap not (all_clear end n store F.before));
-      }
-
       on : (at ≡ end) ⊎ ((at < end) ⊎ (end < at)) → not (list_any (overlaps at n) (spans_of store)) ≡ true → at + n ≤ region_base + region → at ≡ end
       on (inl is) clear inside = is
       on (inr (inl lt)) clear inside =
@@ -88,7 +88,7 @@ module _ (region : ℕ) (store : List Live) (end n : ℕ) (F : Filled store end)
   next_end : behind end n ≤ end + n + 7
   next_end = let above = (div_ceil_times n 8 (omega arith)).1 in omega arith
 
-  filled_more : (b : Live) → b.at ≡ end → length b.bytes ≡ n → Filled (with_block b store) (behind end n)
+  pub filled_more : (b : Live) → b.at ≡ end → length b.bytes ≡ n → Filled (with_block b store) (behind end n)
   filled_more b at size =
       let over = div_ceil_times n 8 (omega arith) in
       record {

@@ -26,11 +26,12 @@ use Rattle.al_fits.proofs.Going.{each_append}
 use Rattle.al_fits.proofs.Within.{units_within}
 use Rattle.al_fits.proofs.Bytes.{some_bytes}
 use Rattle.al_fits.proofs.Blocks.{Filled, all_placed}
-use Rattle.al_fits.proofs.Weights.{few_functions, few_iterators}
+use Rattle.al_weights.proofs.Weights.{few_functions}
+use Rattle.al_fits.proofs.Weights.{few_iterators}
 
 -- ---- how many bytes blocks have
 
-length-bytes : (n w : ℕ) → length (bytes_of n w) ≡ n
+pub length-bytes : (n w : ℕ) → length (bytes_of n w) ≡ n
 length-bytes zero w = refl
 length-bytes (suc n) w = omega (arith, length-bytes n (w / 256))
 
@@ -39,7 +40,7 @@ length-overwritten xs k ys le =
     length-append (take k xs) (ys ++ drop (k + length ys) xs)
     ∙ omega (arith, le, length-append ys (drop (k + length ys) xs), length-take k xs, length-drop (k + length ys) xs)
 
-length-started : (p : Program) (size : ℕ) (starts : List StartValue) (bytes : List ℕ) → length bytes ≡ size
+pub length-started : (p : Program) (size : ℕ) (starts : List StartValue) (bytes : List ℕ) → length bytes ≡ size
     → AllByRecursion (λ (v : StartValue). v.at + v.size ≤ size) starts → length (fold (with_start p) bytes starts) ≡ size
 length-started p size [] bytes e h = e
 length-started p size (v ∷ starts) bytes e h =
@@ -59,7 +60,7 @@ each_weaker : {A : Type 0} (P Q : A → Type 0) → ((a : A) → P a → Q a) �
 each_weaker P Q f [] h = tt
 each_weaker P Q f (x ∷ xs) h = (f x h.0, each_weaker P Q f xs h.1)
 
-length-global : (p : Program) (g : Global) → IsSoundGlobal p g → length (global_bytes p g) ≡ size_of p.aggregates g.ty
+pub length-global : (p : Program) (g : Global) → IsSoundGlobal p g → length (global_bytes p g) ≡ size_of p.aggregates g.ty
 length-global p g h =
     length-started p (size_of p.aggregates g.ty) g.start (replicate (size_of p.aggregates g.ty) 0) (length-replicate (size_of p.aggregates g.ty) 0)
     (each_weaker (Starts p g) (λ (v : StartValue). v.at + v.size ≤ size_of p.aggregates g.ty) (start_within p g) g.start (recursion_from_All (Starts p g) g.start h.starts))
@@ -76,7 +77,7 @@ module _ (p : Program) (W : HasSoundTypes p) where
   shared : AllByRecursion (IsSoundGlobal p) (filter is_shared_global p.globals)
   shared = recursion_from_All (IsSoundGlobal p) (filter is_shared_global p.globals) (All-filter is_shared_global (IsSoundGlobal p) p.globals W.globals)
 
-  sizes_are : map length (opening_blocks p) ≡ block_sizes p
+  pub sizes_are : map length (opening_blocks p) ≡ block_sizes p
   sizes_are =
       map-append length (map (global_bytes p) (filter is_shared_global p.globals)) (map (λ s. s ++ 0 ∷ []) p.strings)
       ∙ ap₂ (λ ms ns. ms ++ ns) (global_sizes p (filter is_shared_global p.globals) shared) (text_sizes p.strings)
@@ -91,7 +92,7 @@ module _ (p : Program) (W : HasSoundTypes p) where
   texts_some [] = tt
   texts_some (s ∷ texts) = (omega (arith, length-append s (0 ∷ [])), texts_some texts)
 
-  blocks_some : AllByRecursion (λ (b : List ℕ). 1 ≤ length b) (opening_blocks p)
+  pub blocks_some : AllByRecursion (λ (b : List ℕ). 1 ≤ length b) (opening_blocks p)
   blocks_some =
       each_append (λ (b : List ℕ). 1 ≤ length b) (map (global_bytes p) (filter is_shared_global p.globals)) (map (λ s. s ++ 0 ∷ []) p.strings)
       (globals_some (filter is_shared_global p.globals) shared) (texts_some p.strings)

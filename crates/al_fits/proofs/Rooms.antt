@@ -147,7 +147,7 @@ module _ (p : Program) (W : HasSoundTypes p) (R : HasRoom p) where
   place_object : (place : TPlace) (path : List ℕ) (how : Passed) → In p (λ s. (given : List Ty) × Gives s (form.place_before place path how) given)
       → ReceiverFits p (form.place_before place path how)
   unfolding Gives
-  place_object place path how x = let v = x.term.1 in leads_fit path (place_type place) v.0 v.1.1.0 (sound_place p W place (narrow x (λ s v. v.1.1.0)))
+  place_object place path how x = let v = x.term.1 in leads_fit path (place_type place) v.0 v.1.1.1.0 (sound_place p W place (narrow x (λ s v. v.1.1.0)))
 
   pointer_object : (pointer : TExpr) (path : List ℕ) (how : Passed) → In p (λ s. (given : List Ty) × Gives s (form.pointer_before pointer path how) given)
       → ReceiverFits p (form.pointer_before pointer path how)
@@ -200,7 +200,7 @@ module _ (p : Program) (W : HasSoundTypes p) (R : HasRoom p) where
   place_fits n (Global t number) x = global_fits number
   place_fits n (form.pointed t pointer) x = tt
   place_fits n (form.element t base index) x = sound_small p t (sound_place p W (form.element t base index) x)
-  place_fits n (form.member_in t of path) x = leads_offset path (place_type of) t x.term.1 (sound_place p W of (narrow x (λ s v. v.0)))
+  place_fits n (form.member_in t of path) x = leads_offset path (place_type of) t x.term.1.1 (sound_place p W of (narrow x (λ s v. v.0)))
   place_fits n (form.pointed_member t pointer path) x =
       let v = x.term in
       subst (λ u. path_offset p u path < 2 ^ 32) (sym (pointee_is (type_of pointer) v.0 v.1.1.0))

@@ -96,7 +96,7 @@ module _ (p : Program) (W : HasSoundTypes p) where
       place_sound (Global t number) h = stored t h
       place_sound (form.pointed t pointer) h = target_is (type_of pointer) t h.1 (value_sound pointer h.0)
       place_sound (form.element t base index) h = target_is (type_of base) t h.1.1.0 (value_sound base h.1.0)
-      place_sound (form.member_in t of path) h = leads_sound path (place_type of) t h.1 (place_sound of h.0)
+      place_sound (form.member_in t of path) h = leads_sound path (place_type of) t h.1.1 (place_sound of h.0)
       place_sound (form.pointed_member t pointer path) h =
           leads_sound path h.0 t h.1.1.1 (target_is (type_of pointer) h.0 h.1.1.0 (value_sound pointer h.1.0))
 

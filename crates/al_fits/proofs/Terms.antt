@@ -156,7 +156,7 @@ module _ (p : Program) (W : HasSoundTypes p) where
   place_object place path how x =
       let v = x.term.1 in
       let y : In p (λ s. IsPlace s place) = narrow x (λ s v. v.1.1.0) in
-      (y, (leads_small p W path (place_type place) v.0 v.1.1.0 (sound_place place y), tt))
+      (y, (leads_small p W path (place_type place) v.0 v.1.1.1.0 (sound_place place y), tt))
 
   value_object : (value : TExpr) (path : List ℕ) (how : Passed) → In p (λ s. (given : List Ty) × Gives s (form.value_before value path how) given)
       → WorksAre p (object_work p (Some (form.value_before value path how)))
@@ -165,11 +165,11 @@ module _ (p : Program) (W : HasSoundTypes p) where
   value_object value path passed.Value x =
       let v = x.term.1 in
       let y : In p (λ s. IsValue s value) = narrow x (λ s v. v.1.1.0) in
-      (y, (part_fits p W path (type_of value) v.0 v.1.1.0 (sound_value value y), tt))
+      (y, (part_fits p W path (type_of value) v.0 v.1.1.1.0 (sound_value value y), tt))
   value_object value path passed.Nothing x =
       let v = x.term.1 in
       let y : In p (λ s. IsValue s value) = narrow x (λ s v. v.1.1.0) in
-      (y, (part_fits p W path (type_of value) v.0 v.1.1.0 (sound_value value y), tt))
+      (y, (part_fits p W path (type_of value) v.0 v.1.1.1.0 (sound_value value y), tt))
 
   pointer_object : (pointer : TExpr) (path : List ℕ) (how : Passed) → In p (λ s. (given : List Ty) × Gives s (form.pointer_before pointer path how) given)
       → WorksAre p (object_work p (Some (form.pointer_before pointer path how)))

@@ -4,7 +4,7 @@ ghost use Rattle.al_flow.specs.Rules as rule;
 
 /// What a break can leave.
 #[derive(Clone, Copy)]
-pub(crate) enum Enclosing {
+pub enum Enclosing {
     Loop,
     /// A switch or an alt.
     Choice,
@@ -12,11 +12,11 @@ pub(crate) enum Enclosing {
 
 /// How much of what is round a statement is round the par branch at hand too.
 #[derive(Clone, Copy)]
-pub(crate) struct Outside {
+pub struct Outside {
     /// Loops, switches and alts.
-    pub(crate) left: usize,
+    pub left: usize,
     /// Loops.
-    pub(crate) loops: usize,
+    pub loops: usize,
 }
 
 fn is_loop(enclosing: Enclosing) -> bool

@@ -11,6 +11,10 @@ mod target;
 mod targets;
 mod walk;
 
+pub use around::{Enclosing, Outside};
 pub use flow::find_targets;
+pub use mark::Mark;
+pub use marks::Marks;
 pub use target::Target;
 pub use targets::Targets;
+pub use walk::Walk;

@@ -10,7 +10,7 @@ use al_tree::{Name, Stmt};
 
 /// A label or a rescue by its name.
 #[derive(Clone, Copy)]
-pub(crate) enum Mark {
+pub enum Mark {
     Label(u32),
     Rescue(Option<u32>),
 }

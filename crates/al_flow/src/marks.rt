@@ -11,7 +11,7 @@ use std::marker::Model;
 
 /// Labels and rescues in text order, with the numbers of names. Contracts see their list.
 #[derive(Drop)]
-pub(crate) struct Marks {
+pub struct Marks {
     list: Items<Mark>,
     labels: IndexMap<u32, u64>,
     rescues: IndexMap<u32, u64>,

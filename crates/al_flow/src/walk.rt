@@ -13,17 +13,17 @@ use al_rules::{TypeFault, ask};
 
 /// What is found so far, at some point of a function or par branch.
 #[derive(Drop)]
-pub(crate) struct Walk {
+pub struct Walk {
     /// The labels and rescues before this point.
-    pub(crate) passed: Marks,
+    pub passed: Marks,
     /// The closest earlier rescue, to which a raise goes from here.
-    pub(crate) closest: Option<u64>,
+    pub closest: Option<u64>,
     /// What is round this point.
-    pub(crate) around: Items<Enclosing>,
+    pub around: Items<Enclosing>,
     /// How much of this is round the branch at hand.
-    pub(crate) outside: Outside,
-    pub(crate) targets: Targets,
-    pub(crate) faults: Items<TypeFault>,
+    pub outside: Outside,
+    pub targets: Targets,
+    pub faults: Items<TypeFault>,
 }
 
 const MOST_BRANCHES: usize = 64;

@@ -8,9 +8,7 @@ use Rattle.al_typed.specs.declared.ty.Ty.{Ty, Void, Integer, Pointer', Array', C
 use Rattle.al_typed.specs.declared.ty.Ty.TheVariants as ty
 use Rattle.al_typed.specs.declared.ty.Ty.TheBlock.{hidden-the_row-Ty-0, hidden-the_row-Ty-1}
 use denote.Hole.Carrier.{hidden}
-use Rattle.al_convert.specs.Same.{same, same_list}
-use Rattle.al_meaning.specs.Alike.{are_alike, all_alike, same_kind}
-use Rattle.al_lower_classes.proofs.Alikes.{alike}
+use Rattle.al_typed.specs.Alike.{are_alike, all_alike, same_kind}
 
 -- ---- a type and itself
 
@@ -94,24 +92,3 @@ mutual
       ap₂ (λ x y. x && y) (alike_same a b q.0 c) (all_alike_same more others q.1 rest)
   all_alike_same end_of-Ty (more_of-Ty b others) e c = absurd (cc)
   all_alike_same (more_of-Ty a more) end_of-Ty e c = absurd (cc)
-
--- ---- types of functions, part by part
-
-lists_alike : (xs ys : List Ty) → same_list false xs ys ≡ are_alike (ty.Tuple xs) (ty.Tuple ys)
-unfolding hidden-the_row-Ty-1 hidden
-lists_alike [] [] = refl
-lists_alike [] (y ∷ ys) = refl
-lists_alike (x ∷ xs) [] = refl
-lists_alike (x ∷ xs) (y ∷ ys) = ap₂ (λ a b. a && b) (alike x y) (lists_alike xs ys)
-
-and_true : (b : Bool) → b ≡ (b && true)
-and_true true = refl
-and_true false = refl
-
-by_parts : (x y : Ty) (xs ys : List Ty) → ((are_alike x y && true) && are_alike (ty.Tuple xs) (ty.Tuple ys)) ≡ are_alike (ty.Function x xs) (ty.Function y ys)
-unfolding hidden-the_row-Ty-0 hidden-the_row-Ty-1 hidden
-by_parts x y xs ys = refl
-
-pub functions_alike : (x y : Ty) (xs ys : List Ty) → (same false x y && same_list false xs ys) ≡ are_alike (ty.Function x xs) (ty.Function y ys)
-functions_alike x y xs ys =
-    ap₂ (λ a b. a && b) (alike x y ∙ and_true (are_alike x y)) (lists_alike xs ys) ∙ by_parts x y xs ys

@@ -7,7 +7,7 @@ use Rattle.al_typed.specs.declared.ty.Ty.{Ty}
 use Rattle.al_typed.specs.declared.program.Function.{Function as FunctionRow}
 use Rattle.al_typed.specs.declared.program.Program.{Program}
 use Rattle.al_typed.specs.Typed.{function_type}
-use Rattle.al_meaning.specs.Alike.{are_alike}
+use Rattle.al_typed.specs.Alike.{are_alike}
 use Rattle.al_meaning.specs.Parts.{first_of_two}
 use Rattle.al_meaning.specs.Calls.{has_type}
 use Rattle.al_lower_code.specs.Classes.{first_of_type, class_number}

@@ -7,7 +7,7 @@ use Rattle.al_typed.specs.declared.ty.Ty.{Ty}
 use Rattle.al_typed.specs.declared.program.Function.{Function as FunctionRow}
 use Rattle.al_typed.specs.declared.program.Program.{Program}
 use Rattle.al_typed.specs.Typed.{function_type}
-use Rattle.al_meaning.specs.Alike.{are_alike}
+use Rattle.al_typed.specs.Alike.{are_alike}
 use Rattle.al_meaning.specs.Calls.{has_type}
 use Rattle.al_lower_code.specs.Classes.{first_of_type, all_of_type, class_number, class_at, classes_from, classes}
 use Rattle.al_lower.specs.Alike.{own_class, class_of, numbers_of, numbers_at, lists_from}

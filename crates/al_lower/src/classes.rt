@@ -2,7 +2,7 @@
 ghost use Rattle.std.specs.Prelude.{◌≡◌, ◌+◌, ◌<◌, false, length, map, slice_get, slice_index_or, IfOk, OnOk};
 ghost use Rattle.al_typed.specs.Typed.{function_type, local_types};
 ghost use Rattle.al_convert.specs.Same.{same_list};
-ghost use Rattle.al_meaning.specs.Alike as meaning;
+ghost use Rattle.al_typed.specs.Alike as meaning;
 ghost use Rattle.al_lower_code.specs.Classes as spec;
 ghost use Rattle.al_lower.specs.Alike.{first_among, is_typed, lists_from, numbers_at, numbers_of, own_class, AreFirsts};
 
@@ -35,7 +35,7 @@ fn same_types(xs: &[Local], ys: &[Local]) -> bool
 }
 
 /// Whether two functions are of the same type.
-#[tactic(auto, using(crate::proofs::AlikeTypes::functions_alike))]
+#[tactic(auto, using(al_convert::proofs::Alikes::functions_alike))]
 fn are_alike(f: &Function, g: &Function) -> bool
     ensures { result ≡ meaning.are_alike (function_type f.now) (function_type g.now) }
 {

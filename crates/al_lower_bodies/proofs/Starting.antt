@@ -31,6 +31,7 @@ use Rattle.al_lower_steps.proofs.Steps.{Runs, moved, has_front, has_back}
 use Rattle.al_lower_claims.proofs.Privates.{join_fits}
 use Rattle.al_lower_claims.proofs.Variables.{holds_stays}
 use Rattle.al_lower_claims.proofs.Claims.{scene, site, spot}
+use Rattle.al_lower_values.proofs.Calls.{SameCalls}
 use Rattle.al_lower_bodies.proofs.Bodies.{Body, setting, ways_in, site_of, vars_of, spot_in, ValuesIn, ObjectIn}
 
 pub flat_append : {A B : Type 0} (f : A → List B) (xs ys : List A) → flat_map f (xs ++ ys) ≡ flat_map f xs ++ flat_map f ys
@@ -59,8 +60,7 @@ module _ (b : Body) where
     pub row : FunctionRow
     pub there : function_at b.program function ≡ Some row
     pub no_branch : row.around ≡ []
-    pub returns : t ≡ row.returns
-    pub takes : parameter_types row ≡ given ++ row_types arguments
+    pub same : SameCalls b.program t row.returns (given ++ row_types arguments) (parameter_types row)
     pub no_arrays : AllByRecursion (λ t. is_array t ≡ false) (row_types arguments)
 
   -- the words of the call stand from the first free slot on
@@ -84,7 +84,7 @@ module _ (b : Body) where
       let total : length ws ≡ ob.words + words_of_types (spot k) (row_types arguments) = ap length is ∙ omega (arith, length-append (joined os) (joined vs), count, more) in
       let kept : Holds now2 to (joined os) = holds_stays (scene k) (joined os) to (to + ob.words) now2 now1 (omega arith) (omega (arith, count)) st2 holds1 in
       let all : Holds now2 to ws = subst (Holds now2 to) (sym is) (holds_join (joined os) (joined vs) to now2 kept (holds_at (joined vs) (to + ob.words) (to + length (joined os)) now2 (ap (λ i. to + i) (sym count)) holds2)) in
-      let units : flat_map (units_in p) h.given ++ flat_map (units_in p) (row_types arguments) ≡ given_units p h.row = sym (ap (λ q. map (λ _. unit_at 0 4) q ++ flat_map (units_in p) (parameter_types h.row)) h.no_branch ∙ (ap (flat_map (units_in p)) h.takes ∙ flat_append (units_in p) h.given (row_types arguments))) in
+      let units : flat_map (units_in p) h.given ++ flat_map (units_in p) (row_types arguments) ≡ given_units p h.row = sym (ap (λ q. map (λ _. unit_at 0 4) q ++ flat_map (units_in p) (parameter_types h.row)) h.no_branch ∙ (sym h.same.taken ∙ flat_append (units_in p) h.given (row_types arguments))) in
       let fits : AreOf (given_units p h.row) ws = subst (λ q. AreOf q ws) units (subst (AreOf (flat_map (units_in p) h.given ++ flat_map (units_in p) (row_types arguments))) (sym is) (join_fits (flat_map (units_in p) h.given) (flat_map (units_in p) (row_types arguments)) (joined os) (joined vs) fo fv)) in
       let len : pc + length ca + length cb ≡ pc + length (ca ++ cb) = omega (arith, length-append ca cb) in
       moved (site k) len (go ws env2 s now2 last2 fits total vars2 all)))

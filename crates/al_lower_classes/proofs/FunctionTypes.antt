@@ -8,9 +8,9 @@ use Rattle.al_typed.specs.Typed.{function_type, local_types}
 use Rattle.al_typed.specs.declared.ty.Ty.{Ty}
 use Rattle.al_typed.specs.declared.ty.Ty.TheVariants as ty
 use Rattle.al_convert.specs.Same.{same}
-use Rattle.al_meaning.specs.Alike.{are_alike}
+use Rattle.al_typed.specs.Alike.{are_alike}
 use Rattle.al_meaning.specs.Calls.{has_type}
-use Rattle.al_lower_classes.proofs.Alikes.{alike}
+use Rattle.al_convert.proofs.Alikes.{alike}
 
 -- the type of a function, by the locals that are parameters
 pub type_is : (f : Function) (slice cut : List Local) (k : ℕ) (returns : Ty) (parameters : List Ty) → slice ≡ f.locals → k ≡ min f.parameters (length slice)

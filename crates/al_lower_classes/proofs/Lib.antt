@@ -1,3 +1,1 @@
-pub mod RowItems
-pub mod Alikes
 pub mod FunctionTypes

@@ -1,6 +1,6 @@
 -- Each form of expression in the premises' terms.
 use Rattle.std.proofs.Common.{◌≡◌, ℕ, List, [], ◌∷◌, ◌++◌, map, Option, None, refl, sym, ap, ◌∙◌, subst, arith}
-use Rattle.std.specs.Prelude.{Bool, true, false, ◌||◌}
+use Rattle.std.specs.Prelude.{Bool, true, false}
 use Rattle.al_base.specs.declared.arith.Kind.{Kind}
 use Rattle.al_base.specs.declared.arith.Kind.TheVariants as kind
 use Rattle.al_typed.specs.declared.expression.UnaryOp.{UnaryOp}
@@ -19,7 +19,7 @@ use Rattle.al_typed.specs.declared.expression.TExpr.{TExpr, Constant, Text, Nil,
 use Rattle.al_typed.specs.declared.expression.TPlace.{TPlace}
 use Rattle.al_typed.specs.declared.expression.TTarget.{Dropped, Parts'}
 use Rattle.al_typed.specs.ExpressionForms as form
-use Rattle.al_typed.specs.Types.{int, is_void, is_array, is_whole, points_to_complete}
+use Rattle.al_typed.specs.Types.{int, is_void, is_array, points_to_complete}
 use Rattle.al_typed.specs.Typed.{type_of, place_type, row_types, function_type, parameter_types}
 use Rattle.al_typed.specs.WellTyped.{names_in, Takes, Prints, IsValue, is_sound, is_word}
 use Rattle.al_meaning.specs.Places.{text_place, function_address}
@@ -57,12 +57,14 @@ use Rattle.al_lower_changes.proofs.Updating.{update_does}
 use Rattle.al_lower_changes.proofs.Stepped.{stepped_does}
 use Rattle.al_lower_changes.proofs.Cleared.{zerox_does}
 use Rattle.al_lower_targets.proofs.Targets.{AimedDoes, dropped_aims, assign_parts_does}
+use Rattle.al_lower_pointers.proofs.Alike.{alike_void, alike_array, alike_returns, each_parameter, same_calls}
 use Rattle.al_lower_pointers.proofs.Calls.{call_pointer_means, call_pointer_does}
 use Rattle.al_lower_members.proofs.Extracting.{member_of_does}
-use Rattle.al_lower_expressions.proofs.Types.{both_hold, IsPart, AreParts, whole_part, word_of, int_word, pointer_word, channel_word, test_of, complete_pointer, pointee_is, void_words, void_is, array_is, sound_pointer, sound_channel, leads_part}
+use Rattle.al_lower_expressions.proofs.Types.{both_hold, IsPart, AreParts, whole_part, given_or_void, word_of, int_word, pointer_word, channel_word, test_of, complete_pointer, pointee_is, void_words, void_is, array_is, leads_part}
+use Rattle.al_lower_expressions.proofs.Like.{IsLike, IsFunctionLike, alike_part, alike_word, pointed_like, function_like, carried}
 use Rattle.al_lower_expressions.proofs.Premises.{Premises, scope_of, plain_globals, array_addresses}
-use Rattle.al_lower_expressions.proofs.Signatures.{FunctionSound, function_sound, tuple_parts, given_or_void, given_parts, parameters_given, returned_void_or_whole}
-use Rattle.al_lower_expressions.proofs.Sound.{value_sound}
+use Rattle.al_lower_expressions.proofs.Signatures.{tuple_parts, given_parts, parameters_given, returned_void_or_whole}
+use Rattle.al_lower_expressions.proofs.Sound.{value_like}
 use Rattle.al_lower_expressions.proofs.Truths.{truth_short, assigned_as}
 use Rattle.al_lower_expressions.proofs.Rows.{tuple_part, tuple_of_parts, target_to_parts, types_of_exprs, size_word}
 use Rattle.al_lower_expressions.proofs.Forms.{GivenDoes, array, has_addresses, word_constant, steps_of}
@@ -108,7 +110,7 @@ module _ (k : Setting) (h : Premises k) where
 
   pub function_form : (t : Ty) (n : ℕ) → IsValue (scope_of k h) (Function t n) → CodedDoes k (told (Function t n) k.ways) (type_of (Function t n)) (coded (spot k) (Function t n))
   unfolding IsValue
-  function_form t n v = word_constant k h t (function_address n) (pointer_is t (function_type v.0) v.1.1) (h.functions n v.0 v.1.0.0)
+  function_form t n v = word_constant k h t (function_address n) (alike_word t (function_type v.0) v.1.1) (h.functions n v.0 v.1.0.0)
 
   pub load_form : (t : Ty) (place : TPlace) → IsValue (scope_of k h) (form.load t place) → PlacedDoes k (found place k.ways) (place_type place) (placed (spot k) place) → CodedDoes k (told (form.load t place) k.ways) (type_of (form.load t place)) (coded (spot k) (form.load t place))
   unfolding IsValue
@@ -255,20 +257,23 @@ module _ (k : Setting) (h : Premises k) where
       tuple_does k t (row (spot k) parts) p.not_void p.not_array (tuple_of_parts k t (row_types parts) v.1.1) hr
 
   pub call_types : (t : Ty) (n : ℕ) (given : List Ty) → Takes (names_in k.ways.program h.function) n given t → AreParts given
-  call_types t n given v = subst AreParts v.1.1.1 (given_parts k.ways.program (parameter_types v.0) (parameters_given k.ways.program n v.0 (h.well_typed.functions n v.0 v.1.0.0)))
+  call_types t n given v = each_parameter IsPart alike_part t v.0.returns given (parameter_types v.0) v.1.1 (given_parts k.ways.program (parameter_types v.0) (parameters_given k.ways.program n v.0 (h.well_typed.functions n v.0 v.1.0.0)))
 
   pub call_form : (t : Ty) (n : ℕ) (receiver : Held-TExpr-Call-2) (given us : List Ty) (r : Row) (mr : Task (List (List ℕ))) → Takes (names_in k.ways.program h.function) n (given ++ us) t → GivenDoes k (told_object receiver k.ways) given (object (spot k) receiver) → RowDoes k mr us r.keeps r.values → CodedDoes k (call_means k (told_object receiver k.ways) mr n) t (call_coded (spot k) t n (object (spot k) receiver) r)
   call_form t n receiver given us r mr v o hr =
-      call_does k t n v.0 (object (spot k) receiver) r h.calls v.1.0.0 v.1.0.1 v.1.1.0 v.1.1.1 o.words (void_words k t) (given_or_void k.ways.program t (subst (λ q. (is_void q || is_whole k.ways.program.aggregates q) ≡ true) (sym v.1.1.0) (returned_void_or_whole k h n v.0 v.1.0.0))) o.rows hr
+      let g = v.0 in
+      let e = alike_returns t g.returns (given ++ us) (parameter_types g) v.1.1 in
+      let plain = given_or_void k.ways.program.aggregates g.returns (returned_void_or_whole k h n g v.1.0.0) in
+      call_does k t n g (object (spot k) receiver) r h.calls v.1.0.0 v.1.0.1 (same_calls k.ways.program t g.returns (given ++ us) (parameter_types g) v.1.1) o.words (void_words k t) (λ nv. alike_array t g.returns e ∙ plain (sym (alike_void t g.returns e) ∙ nv)) o.rows hr
 
-  pub pointer_types : (t : Ty) (pointer : TExpr) (us : List Ty) → IsValue (scope_of k h) pointer → type_of pointer ≡ ty.Pointer (ty.Function t us) → FunctionSound k.ways.program t us
-  pointer_types t pointer us v e = function_sound k.ways.program t us (sym (sound_pointer k.ways.program.aggregates (ty.Function t us)) ∙ subst (λ q. is_sound k.ways.program.aggregates q ≡ true) e (value_sound k h pointer v))
+  pub pointer_types : (t : Ty) (pointer : TExpr) (us : List Ty) → IsValue (scope_of k h) pointer → type_of pointer ≡ ty.Pointer (ty.Function t us) → IsFunctionLike k.ways.program.aggregates t us
+  pointer_types t pointer us v e = function_like k.ways.program.aggregates t us (pointed_like k.ways.program.aggregates (ty.Function t us) (subst (IsLike k.ways.program.aggregates) e (value_like k h pointer v)))
 
   pub call_pointer_form : (t : Ty) (pointer : TExpr) (us : List Ty) (r : Row) (mr : Task (List (List ℕ))) → IsValue (scope_of k h) pointer → type_of pointer ≡ ty.Pointer (ty.Function t us) → CodedDoes k (told pointer k.ways) (type_of pointer) (coded (spot k) pointer) → RowDoes k mr us r.keeps r.values → CodedDoes k (call_pointer_means k h.calls h.classes (told pointer k.ways) mr (pointee (type_of pointer))) t (call_pointer_coded (spot k) t (class_number k.ways.program (pointee (type_of pointer))) (coded (spot k) pointer) r)
   call_pointer_form t pointer us r mr v e hp hr =
       let fs = pointer_types t pointer us v e in
       subst (λ q. CodedDoes k (call_pointer_means k h.calls h.classes (told pointer k.ways) mr q) t (call_pointer_coded (spot k) t (class_number k.ways.program q) (coded (spot k) pointer) r)) (sym (ap pointee e ∙ pointee_is (ty.Function t us)))
-      (call_pointer_does k h.calls h.classes t (type_of pointer) us (coded (spot k) pointer) r (word_of k (type_of pointer) (pointer_is (type_of pointer) (ty.Function t us) e)) (void_words k t) (given_or_void k.ways.program t fs.returns) hp hr)
+      (call_pointer_does k h.calls h.classes t (type_of pointer) us (coded (spot k) pointer) r (word_of k (type_of pointer) (pointer_is (type_of pointer) (ty.Function t us) e)) (void_words k t) fs.returns hp hr)
 
   pub print_form : (t : Ty) (format : List PrintPiece) {m : _} (arguments : Row_of-TExpr m) → t ≡ ty.Void → Prints format (row_types arguments) → EachDoes k (told_all arguments k.ways) (row_types arguments) (row (spot k) arguments).keeps (row (spot k) arguments).values → CodedDoes k (print_means k (told_all arguments k.ways) format (map type_of (exprs arguments))) t (print_coded (spot k) t format (row_types arguments) (row (spot k) arguments))
   print_form t format arguments e fits hr =
@@ -282,14 +287,14 @@ module _ (k : Setting) (h : Premises k) where
   pub receive_form : (t : Ty) (chan : TExpr) → IsValue (scope_of k h) (form.receive t chan) → CodedDoes k (told chan k.ways) (type_of chan) (coded (spot k) chan) → CodedDoes k (told (form.receive t chan) k.ways) (type_of (form.receive t chan)) (coded (spot k) (form.receive t chan))
   unfolding IsValue
   receive_form t chan v hc =
-      let p = whole_part k.ways.program.aggregates t (sound_channel k.ways.program.aggregates t v.1.0 (subst (λ q. is_sound k.ways.program.aggregates q ≡ true) v.1.1 (value_sound k h chan v.0))).1 in
+      let p = (carried k.ways.program.aggregates t v.1.0 (subst (IsLike k.ways.program.aggregates) v.1.1 (value_like k h chan v.0))).part in
       receive_does k (word_of k (type_of chan) (channel_is (type_of chan) t v.1.0 v.1.1)) hc t p.not_void p.not_array
 
   pub send_form : (t : Ty) (chan value : TExpr) → IsValue (scope_of k h) (form.send t chan value) → CodedDoes k (told chan k.ways) (type_of chan) (coded (spot k) chan) → CodedDoes k (told value k.ways) (type_of value) (coded (spot k) value) → CodedDoes k (told (form.send t chan value) k.ways) (type_of (form.send t chan value)) (coded (spot k) (form.send t chan value))
   unfolding IsValue
   send_form t chan value v hc hv =
       let u = type_of value in
-      let p = whole_part k.ways.program.aggregates u (sound_channel k.ways.program.aggregates u v.1.1.1.0 (subst (λ q. is_sound k.ways.program.aggregates q ≡ true) v.1.1.1.1 (value_sound k h chan v.1.0))).1 in
+      let p = (carried k.ways.program.aggregates u v.1.1.1.0 (subst (IsLike k.ways.program.aggregates) v.1.1.1.1 (value_like k h chan v.1.0))).part in
       send_does k (word_of k (type_of chan) (channel_is (type_of chan) u v.1.1.1.0 v.1.1.1.1)) hc t u (subst (λ q. is_void q ≡ true) (sym v.0) void_is) p.not_void p.not_array hv
 
   pub can_receive_form : (t : Ty) (chan : TExpr) → IsValue (scope_of k h) (form.can_receive t chan) → CodedDoes k (told chan k.ways) (type_of chan) (coded (spot k) chan) → CodedDoes k (told (form.can_receive t chan) k.ways) (type_of (form.can_receive t chan)) (coded (spot k) (form.can_receive t chan))
@@ -309,11 +314,11 @@ module _ (k : Setting) (h : Premises k) where
 
   pub cast_form : (t : Ty) (of : TExpr) → IsValue (scope_of k h) (form.cast t of) → CodedDoes k (told of k.ways) (type_of of) (coded (spot k) of) → CodedDoes k (told (form.cast t of) k.ways) (type_of (form.cast t of)) (coded (spot k) (form.cast t of))
   unfolding IsValue
-  cast_form t of v ho = folded_does k (scope_of k h) (form.cast t of) v (conversion_does k (type_of of) t v.1.1 (value_sound k h of v.1.0) v.0 ho)
+  cast_form t of v ho = folded_does k (scope_of k h) (form.cast t of) v (conversion_does k (type_of of) t v.1.1 ho)
 
   pub convert_form : (t : Ty) (of : TExpr) → IsValue (scope_of k h) (form.convert t of) → CodedDoes k (told of k.ways) (type_of of) (coded (spot k) of) → CodedDoes k (told (form.convert t of) k.ways) (type_of (form.convert t of)) (coded (spot k) (form.convert t of))
   unfolding IsValue
-  convert_form t of v ho = folded_does k (scope_of k h) (form.convert t of) v (conversion_does k (type_of of) t v.1.1 (value_sound k h of v.1.0) v.0 ho)
+  convert_form t of v ho = folded_does k (scope_of k h) (form.convert t of) v (conversion_does k (type_of of) t v.1.1 ho)
 
   pub iterator_form : (t : Ty) (n : ℕ) → IsValue (scope_of k h) (Iterator t n) → CodedDoes k (told (Iterator t n) k.ways) (type_of (Iterator t n)) (coded (spot k) (Iterator t n))
   unfolding IsValue

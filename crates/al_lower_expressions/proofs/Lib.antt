@@ -1,4 +1,5 @@
 pub mod Types
+pub mod Like
 pub mod Premises
 pub mod Signatures
 pub mod Sound

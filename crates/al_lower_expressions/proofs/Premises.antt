@@ -1,6 +1,6 @@
 -- What the statement at hand, its function, the program and its operations have to give.
 use Rattle.std.proofs.Common.{◌≡◌, ℕ, zero, suc, ◌^◌, ◌<◌, List, [], ◌∷◌, length, Some, refl, sym, ap, ◌∙◌, subst, arith}
-use Rattle.std.specs.Prelude.{⊤, ◌==◌, Bool, true, false, not, All, slice_get}
+use Rattle.std.specs.Prelude.{◌==◌, Bool, true, false, not, All, slice_get}
 use Rattle.std.specs.List.{AllByRecursion}
 use Rattle.std.proofs.lemmas.List.Elements.{recursion_from_All}
 use Rattle.std.proofs.lemmas.Grind.{common_steps}
@@ -8,14 +8,12 @@ use Rattle.al_typed.specs.declared.program.Function.{Function as FunctionRow}
 use Rattle.al_typed.specs.declared.program.Global.{Global as GlobalRow}
 use Rattle.al_typed.specs.declared.program.Local.{Local as LocalRow}
 use Rattle.al_typed.specs.declared.ty.Ty.{Ty}
-use Rattle.al_typed.specs.declared.expression.TExpr.{TExpr, Tuple', Call', CallPointer', Print', Sequence', Held-TExpr-Call-2, None', Some', Row_of-TExpr, end_of-TExpr, more_of-TExpr, Row_of-TTarget, end_of-TTarget, more_of-TTarget, end_of-TReceiver, more_of-TReceiver}
-use Rattle.al_typed.specs.declared.expression.TPlace.{TPlace}
-use Rattle.al_typed.specs.declared.expression.TTarget.{TTarget, Parts'}
-use Rattle.al_typed.specs.declared.expression.TReceiver.{TReceiver}
-use Rattle.al_typed.specs.ExpressionForms as form
-use Rattle.al_typed.specs.Types.{is_void, is_array}
-use Rattle.al_typed.specs.Typed.{type_of}
-use Rattle.al_typed.specs.WellTyped.{Scope, names_in, HasAddress, IsLocalOf, IsGlobal, IsFunction, IsWellTyped, shared_types}
+use Rattle.al_typed.specs.declared.ty.Ty.TheViews.{out-Ty}
+use denote.Hole.Carrier.{out}
+use Rattle.al_typed.specs.declared.expression.TPlace.{TPlace, Local as LocalPlace, Global as GlobalPlace}
+use Rattle.al_typed.specs.Types.{IsAggregate, is_array, may_be_private}
+use Rattle.al_typed.specs.Typed.{place_type}
+use Rattle.al_typed.specs.WellTyped.{Scope, names_in, HasAddress, IsPlace, IsLocalOf, IsGlobal, IsFunction, IsWellTyped, shared_types}
 use Rattle.al_meaning.specs.Places.{function_at, locals_of, has_block, global_place, text_place, function_address}
 use Rattle.al_lower_code.specs.Classes.{classes}
 use Rattle.al_lower_claims.proofs.Privates.{NoArrayGlobals}
@@ -43,70 +41,6 @@ pub record Premises (k : Setting) : Type 0 where
 abbrev pub scope_of : (k : Setting) → Premises k → Scope
 scope_of k h = record { names = names_in k.ways.program h.function; iterators = k.iterators }
 
--- ---- places with addresses
-
--- Members are taken of places that have an address, objects of calls stand at such places, and a value before a function's name
--- is one. The rules on types do not say it: what has members is an aggregate, but a path of no members leads from any type to
--- itself.
-abbrev mutual
-  pub Reaches : Scope → TExpr → Type 0
-  Reaches s (form.load t place) = PlaceReaches s place
-  Reaches s (form.decay t place) = PlaceReaches s place
-  Reaches s (form.address t place) = PlaceReaches s place
-  Reaches s (form.unary t op of) = Reaches s of
-  Reaches s (form.negation t of) = Reaches s of
-  Reaches s (form.binary t op kind left right) = Reaches s left × Reaches s right
-  Reaches s (form.logical t op left right) = Reaches s left × Reaches s right
-  Reaches s (form.movement t how pointer count) = Reaches s pointer × Reaches s count
-  Reaches s (form.difference t left right) = Reaches s left × Reaches s right
-  Reaches s (form.assign t target value) = TargetReaches s target × Reaches s value
-  Reaches s (form.update t place change value) = PlaceReaches s place × Reaches s value
-  Reaches s (form.stepped t op place) = PlaceReaches s place
-  Reaches s (form.zerox t place) = PlaceReaches s place
-  Reaches s (Tuple' t _ parts) = RowReaches s parts
-  Reaches s (Call' t function receiver _ arguments) = ObjectReaches s receiver × RowReaches s arguments
-  Reaches s (CallPointer' t _ (more_of-TExpr pointer end_of-TExpr) _ arguments) = Reaches s pointer × RowReaches s arguments
-  Reaches s (Print' t format _ arguments) = RowReaches s arguments
-  Reaches s (form.terminate t status) = Reaches s status
-  Reaches s (form.receive t chan) = Reaches s chan
-  Reaches s (form.send t chan value) = Reaches s chan × Reaches s value
-  Reaches s (form.can_receive t chan) = Reaches s chan
-  Reaches s (form.can_send t chan) = Reaches s chan
-  Reaches s (form.member_of t value path) = Reaches s value
-  Reaches s (form.cast t of) = Reaches s of
-  Reaches s (form.convert t of) = Reaches s of
-  Reaches s (Sequence' t _ first _ (more_of-TExpr last end_of-TExpr)) = RowReaches s first × Reaches s last
-  Reaches s _ = ⊤
-
-  pub PlaceReaches : Scope → TPlace → Type 0
-  PlaceReaches s (form.pointed t pointer) = Reaches s pointer
-  PlaceReaches s (form.element t base index) = Reaches s base × Reaches s index
-  PlaceReaches s (form.member_in t of path) = HasAddress s of × PlaceReaches s of
-  PlaceReaches s (form.pointed_member t pointer path) = Reaches s pointer
-  PlaceReaches s _ = ⊤
-
-  pub TargetReaches : Scope → TTarget → Type 0
-  TargetReaches s (form.into place) = PlaceReaches s place
-  TargetReaches s (Parts' t _ parts) = TargetsReach s parts
-  TargetReaches s _ = ⊤
-
-  pub TargetsReach : Scope → {m : _} → Row_of-TTarget m → Type 0
-  TargetsReach s end_of-TTarget = ⊤
-  TargetsReach s (more_of-TTarget target rest) = TargetReaches s target × TargetsReach s rest
-
-  pub ObjectReaches : Scope → Held-TExpr-Call-2 → Type 0
-  ObjectReaches s None' = ⊤
-  ObjectReaches s (Some' _ (more_of-TReceiver receiver end_of-TReceiver)) = ReceiverReaches s receiver
-
-  pub ReceiverReaches : Scope → TReceiver → Type 0
-  ReceiverReaches s (form.place_before place path how) = HasAddress s place × PlaceReaches s place
-  ReceiverReaches s (form.value_before value path how) = (is_void (type_of value) ≡ false) × Reaches s value
-  ReceiverReaches s (form.pointer_before pointer path how) = Reaches s pointer
-
-  pub RowReaches : Scope → {m : _} → Row_of-TExpr m → Type 0
-  RowReaches s end_of-TExpr = ⊤
-  RowReaches s (more_of-TExpr e rest) = Reaches s e × RowReaches s rest
-
 -- ---- what follows
 
 same_some : {A : Type 0} (a b : A) → Some a ≡ Some b → a ≡ b
@@ -132,6 +66,35 @@ module _ (k : Setting) (h : Premises k) where
 
   pub plain_globals : NoArrayGlobals k.ways.program k.ways.program.globals
   plain_globals n g e private = private_not_array g.ty ((global_is n g e).is_private private).0
+
+  true_is_not : (b : Bool) → b ≡ true → b ≡ false → ⊥
+  true_is_not true p q = cc
+  true_is_not false p q = cc
+
+  not_private : (t u : Ty) → u ≡ t → IsAggregate t → may_be_private u ≡ false
+  unfolding may_be_private out-Ty out
+  not_private t u e a = ap may_be_private (e ∙ a.1)
+
+  shared_local : (l : LocalRow) → IsLocalOf k.ways.program l → may_be_private l.ty ≡ false → l.is_shared ≡ true
+  shared_local l h e = on l.is_shared refl
+    where
+      on : (b : Bool) → l.is_shared ≡ b → l.is_shared ≡ true
+      on true q = q
+      on false q = absurd (true_is_not (may_be_private l.ty) (h.1 q) e)
+
+  shared_global : (g : GlobalRow) → IsGlobal k.ways.program g → may_be_private g.ty ≡ false → g.is_private ≡ false
+  shared_global g h e = on g.is_private refl
+    where
+      on : (b : Bool) → g.is_private ≡ b → g.is_private ≡ false
+      on false q = q
+      on true q = absurd (true_is_not (may_be_private g.ty) (h.is_private q).0 e)
+
+  -- a place that is an aggregate has an address: no private variable is one
+  pub has_address : (place : TPlace) → IsPlace (scope_of k h) place → IsAggregate (place_type place) → HasAddress (scope_of k h) place
+  unfolding IsPlace
+  has_address (LocalPlace t n) v a = (v.0, (v.1.0, shared_local v.0 (one_of_all (IsLocalOf k.ways.program) h.function.locals n v.0 own.locals v.1.0) (not_private t v.0.ty v.1.1 a)))
+  has_address (GlobalPlace t n) v a = (v.0, (v.1.0, shared_global v.0 (global_is n v.0 v.1.0) (not_private t v.0.ty v.1.1 a)))
+  has_address _ v a = tt
 
   some_more : (n : ℕ) → not (suc n == 0) ≡ true
   some_more n = grind (arith, common_steps)
@@ -159,14 +122,6 @@ module _ (k : Setting) (h : Premises k) where
   pub array_addresses : (t : Ty) → is_array t ≡ true → HasAddresses k t
   array_addresses t is lasting to now at (Address a) (stored slot offset w e there same leads) = (a, refl)
   array_addresses t is lasting to now at (Local n) (slotted l x ty e) = absurd (true_is_not (is_array t) is (ap is_array (sym ty) ∙ private_not_array l.ty ((local_is n l x.row).1 x.private)))
-    where
-      true_is_not : (b : Bool) → b ≡ true → b ≡ false → ⊥
-      true_is_not true p q = cc
-      true_is_not false p q = cc
   array_addresses t is lasting to now at (Private n) (kept g row private ty e) = absurd (true_is_not (is_array t) is (ap is_array (sym ty) ∙ plain_globals n g row private))
-    where
-      true_is_not : (b : Bool) → b ≡ true → b ≡ false → ⊥
-      true_is_not true p q = cc
-      true_is_not false p q = cc
   array_addresses t is lasting to now at (Words _) x = elim x [ ]
   array_addresses t is lasting to now at Nowhere x = elim x [ ]

@@ -14,7 +14,7 @@ use Rattle.al_typed.specs.Types.{is_void, is_array, is_complete, is_whole}
 use Rattle.al_typed.specs.Typed.{function_type, local_types, parameter_types}
 use Rattle.al_typed.specs.WellTyped.{IsFunction, IsLocalOf, is_sound, are_sound, is_stored}
 use Rattle.al_lower_claims.proofs.Claims.{Setting}
-use Rattle.al_lower_expressions.proofs.Types.{both_hold, AreParts, stored_part, whole_part, void_is}
+use Rattle.al_lower_expressions.proofs.Types.{both_hold, AreParts, stored_part, row_parts, void_is}
 use Rattle.al_lower_expressions.proofs.Premises.{Premises}
 
 both_true : (a b : Bool) → a ≡ true → b ≡ true → (a && b) ≡ true
@@ -49,38 +49,10 @@ module _ (p : Program) where
       let s = both_hold (is_sound p.aggregates t) (is_complete p.aggregates t) h.0 in
       both_true (is_sound p.aggregates t && is_whole p.aggregates t) (are_sound p.aggregates rest) (both_true (is_sound p.aggregates t) (is_whole p.aggregates t) s.0 (both_true (is_complete p.aggregates t) (not (is_array t)) s.1 (not_false (is_array t) h.1.0))) (row_sound rest h.1.1)
 
-  -- ---- from the type of a function
-
-  row_parts : {m : _} (r : Row_of-Ty m) → are_sound p.aggregates r ≡ true → AreParts (items-the_row-Ty m r)
-  row_parts end_of-Ty e = tt
-  row_parts (more_of-Ty t rest) e =
-      let q = both_hold (is_sound p.aggregates t && is_whole p.aggregates t) (are_sound p.aggregates rest) e in
-      (whole_part p.aggregates t (both_hold (is_sound p.aggregates t) (is_whole p.aggregates t) q.0).1, row_parts rest q.1)
-
-  pub record FunctionSound (t : Ty) (ts : List Ty) : Type 0 where
-    pub sound : is_sound p.aggregates t ≡ true
-    pub returns : (is_void t || is_whole p.aggregates t) ≡ true
-    pub parts : AreParts ts
-
-  pub function_sound : (t : Ty) (ts : List Ty) → is_sound p.aggregates (ty.Function t ts) ≡ true → FunctionSound t ts
-  unfolding hidden-the_row-Ty-0 hidden
-  function_sound t ts e =
-      let q = both_hold (is_sound p.aggregates t && (is_void t || is_whole p.aggregates t)) (are_sound p.aggregates (hidden-the_row-Ty-1 ts)) e in
-      let r = both_hold (is_sound p.aggregates t) (is_void t || is_whole p.aggregates t) q.0 in
-      record { sound = r.0; returns = r.1; parts = subst AreParts (items_hidden-the_row-Ty-1 ts) (row_parts (hidden-the_row-Ty-1 ts) q.1) }
-
   pub tuple_parts : (ts : List Ty) → is_sound p.aggregates (ty.Tuple ts) ≡ true → AreParts ts
   tuple_parts ts e =
       let q = both_hold (are_sound p.aggregates (hidden-the_row-Ty-1 ts)) _ e in
-      subst AreParts (items_hidden-the_row-Ty-1 ts) (row_parts (hidden-the_row-Ty-1 ts) q.0)
-
-  -- a void function or one that gives a part
-  pub given_or_void : (t : Ty) → (is_void t || is_whole p.aggregates t) ≡ true → is_void t ≡ false → is_array t ≡ false
-  given_or_void t e nv = (whole_part p.aggregates t (on (is_void t) nv e)).not_array
-    where
-      on : (b : Bool) → b ≡ false → (b || is_whole p.aggregates t) ≡ true → is_whole p.aggregates t ≡ true
-      on true q e = absurd (cc)
-      on false q e = e
+      subst AreParts (items_hidden-the_row-Ty-1 ts) (row_parts p.aggregates (hidden-the_row-Ty-1 ts) q.0)
 
 module _ (k : Setting) (h : Premises k) where
   pub returned_sound : (n : ℕ) (f : FunctionRow) → slice_get k.ways.program.functions n ≡ Some f → is_sound k.ways.program.aggregates f.returns ≡ true

@@ -1,17 +1,17 @@
 -- What the types of values and places have.
-use Rattle.std.proofs.Common.{◌≡◌, ℕ, zero, suc, ◌+◌, List, [], ◌∷◌, length, Option, Some, None, refl, sym, ap, ◌∙◌, subst, inl}
-use Rattle.std.specs.Prelude.{⊤, Bool, true, false, ◌&&◌, not, All, slice_get}
+use Rattle.std.proofs.Common.{◌≡◌, ℕ, zero, suc, List, [], ◌∷◌, length, Option, Some, None, refl, sym, ap, ◌∙◌, subst, inl}
+use Rattle.std.specs.Prelude.{Bool, true, false, ◌&&◌, ◌||◌, not, All, slice_get}
 use Rattle.std.proofs.lemmas.List.Elements.{recursion_from_All}
 use Rattle.std.specs.List.{AllByRecursion}
 use Rattle.al_typed.specs.declared.program.Aggregate.{Aggregate}
-use Rattle.al_typed.specs.declared.ty.Ty.{Ty, Void, Integer, Pointer', Array', Chan', Tuple', Aggregate as Aggregate_, Function', end_of-Ty, more_of-Ty}
+use Rattle.al_typed.specs.declared.ty.Ty.{Ty, Void, Integer, Pointer', Array', Chan', Tuple', Aggregate as Aggregate_, Function', Row_of-Ty, end_of-Ty, more_of-Ty, items-the_row-Ty}
 use Rattle.al_typed.specs.declared.ty.Ty.TheVariants as ty
 use Rattle.al_typed.specs.declared.ty.Ty.TheViews.{out-Ty}
 use Rattle.al_typed.specs.declared.ty.Ty.TheBlock.{hidden-the_row-Ty-0, shown-the_row-Ty-0}
 use denote.Hole.Carrier.{hidden, out, shown}
-use Rattle.al_typed.specs.Types.{is_void, is_array, is_scalar, is_complete, is_whole, may_be_private, points_to_complete, int}
-use Rattle.al_typed.specs.Layout.{Member, layout, layout_of, words_of, member, row_of, members_of, member_offsets, further, beyond}
-use Rattle.al_typed.specs.WellTyped.{LeadsTo, is_sound, is_stored, is_word}
+use Rattle.al_typed.specs.Types.{IsAggregate, is_void, is_array, is_scalar, is_complete, is_whole, may_be_private, points_to_complete, int}
+use Rattle.al_typed.specs.Layout.{Member, layout, layout_of, words_of, member, row_of, members_of, member_offsets, beyond}
+use Rattle.al_typed.specs.WellTyped.{LeadsTo, is_sound, are_sound, is_stored, is_word}
 use Rattle.al_meaning.specs.Here.{pointee}
 use Rattle.al_lower_words.proofs.Integers.{words_are}
 use Rattle.al_lower_claims.proofs.Claims.{Setting, count_of, IsTest, IsWord}
@@ -31,8 +31,11 @@ pub record IsPart (t : Ty) : Type 0 where
   pub not_array : is_array t ≡ false
 
 abbrev pub AreParts : List Ty → Type 0
-AreParts [] = ⊤
-AreParts (t ∷ ts) = IsPart t × AreParts ts
+AreParts ts = AllByRecursion IsPart ts
+
+pub aggregate_part : (t : Ty) → IsAggregate t → IsPart t
+unfolding is_void is_array out-Ty out
+aggregate_part t a = record { not_void = ap is_void a.1; not_array = ap is_array a.1 }
 
 not_true : (b : Bool) → not b ≡ true → b ≡ false
 not_true true e = absurd (cc)
@@ -56,6 +59,20 @@ whole_part rows t e =
 
 pub stored_part : (rows : List Aggregate) (t : Ty) → is_stored rows t ≡ true → is_array t ≡ false → IsPart t
 stored_part rows t e na = record { not_void = complete_not_void rows t (both_hold (is_sound rows t) (is_complete rows t) e).1; not_array = na }
+
+pub row_parts : (rows : List Aggregate) {m : _} (r : Row_of-Ty m) → are_sound rows r ≡ true → AreParts (items-the_row-Ty m r)
+row_parts rows end_of-Ty e = tt
+row_parts rows (more_of-Ty t rest) e =
+    let q = both_hold (is_sound rows t && is_whole rows t) (are_sound rows rest) e in
+    (whole_part rows t (both_hold (is_sound rows t) (is_whole rows t) q.0).1, row_parts rows rest q.1)
+
+-- a void function or one that gives a part
+pub given_or_void : (rows : List Aggregate) (t : Ty) → (is_void t || is_whole rows t) ≡ true → is_void t ≡ false → is_array t ≡ false
+given_or_void rows t e nv = (whole_part rows t (on (is_void t) nv e)).not_array
+  where
+    on : (b : Bool) → b ≡ false → (b || is_whole rows t) ≡ true → is_whole rows t ≡ true
+    on true q e = absurd (cc)
+    on false q e = e
 
 -- ---- words and conditions
 
@@ -146,15 +163,8 @@ pub sound_pointer : (rows : List Aggregate) (to : Ty) → is_sound rows (ty.Poin
 unfolding hidden-the_row-Ty-0 hidden
 sound_pointer rows to = refl
 
-pub sound_element : (rows : List Aggregate) (element : Ty) (n : ℕ) → is_sound rows (ty.Array element n) ≡ true → is_sound rows element ≡ true
-unfolding hidden-the_row-Ty-0 hidden
-sound_element rows element n e = (both_hold (is_sound rows element) (is_complete rows element) (both_hold (is_sound rows element && is_complete rows element) _ (both_hold (is_sound rows element && is_complete rows element && _) _ e).0).0).0
-
-pub sound_channel : (rows : List Aggregate) (element : Ty) (n : ℕ) → is_sound rows (ty.Chan element n) ≡ true → (is_sound rows element ≡ true) × (is_whole rows element ≡ true)
-unfolding hidden-the_row-Ty-0 hidden
-sound_channel rows element n e = both_hold (is_sound rows element) (is_whole rows element) (both_hold (is_sound rows element && is_whole rows element) _ e).0
-
-member_sound : (rows : List Aggregate) → ((k : ℕ) (a : Aggregate) → slice_get rows k ≡ Some a → All (λ t. is_stored rows t ≡ true) (members_of (Some a))) → (t u : Ty) (i : ℕ) → slice_get (members_of (row_of rows t)) i ≡ Some u → is_sound rows u ≡ true
+-- a member of an aggregate is sound
+pub member_sound : (rows : List Aggregate) → ((k : ℕ) (a : Aggregate) → slice_get rows k ≡ Some a → All (λ t. is_stored rows t ≡ true) (members_of (Some a))) → (t u : Ty) (i : ℕ) → slice_get (members_of (row_of rows t)) i ≡ Some u → is_sound rows u ≡ true
 unfolding row_of out-Ty out
 member_sound rows h (Aggregate_ n) u i e = on (slice_get rows n) refl e
   where
@@ -173,23 +183,6 @@ member_sound rows h (Array' _ element n) u i e = absurd (cc)
 member_sound rows h (Chan' _ element n) u i e = absurd (cc)
 member_sound rows h (Tuple' _ parts) u i e = absurd (cc)
 member_sound rows h (Function' _ r _ ps) u i e = absurd (cc)
-
-path_sound : (rows : List Aggregate) (next : Ty → Option Member) (m : Member) → ((u : Ty) (m : Member) → next u ≡ Some m → is_sound rows u ≡ true → is_sound rows m.ty ≡ true) → (mu : Option Ty) (mo : Option ℕ) → ((u : Ty) → mu ≡ Some u → is_sound rows u ≡ true) → beyond mu mo next ≡ Some m → is_sound rows m.ty ≡ true
-path_sound rows next m rest None mo h e = absurd (cc)
-path_sound rows next m rest (Some u) None h e = absurd (cc)
-path_sound rows next m rest (Some u) (Some o) h e = on (next u) refl e
-  where
-    on : (r : Option Member) → next u ≡ r → further o r ≡ Some m → is_sound rows m.ty ≡ true
-    on None q e = absurd (cc)
-    on (Some x) q e = let same : record { ty = x.ty; at = o + x.at } ≡ m = cc in subst (λ (m : Member). is_sound rows m.ty ≡ true) same (rest u x q (h u refl))
-
-members_sound : (rows : List Aggregate) → ((k : ℕ) (a : Aggregate) → slice_get rows k ≡ Some a → All (λ t. is_stored rows t ≡ true) (members_of (Some a))) → (path : List ℕ) (t : Ty) (m : Member) → member rows path t ≡ Some m → is_sound rows t ≡ true → is_sound rows m.ty ≡ true
-unfolding member
-members_sound rows h [] t m e sound = let same : record { ty = t; at = 0 } ≡ m = cc in subst (λ (m : Member). is_sound rows m.ty ≡ true) same sound
-members_sound rows h (i ∷ path) t m e sound = path_sound rows (member rows path) m (λ u x q. members_sound rows h path u x q) (slice_get (members_of (row_of rows t)) i) (slice_get (member_offsets rows (row_of rows t)) i) (λ u q. member_sound rows h t u i q) e
-
-pub leads_sound : (rows : List Aggregate) → ((k : ℕ) (a : Aggregate) → slice_get rows k ≡ Some a → All (λ t. is_stored rows t ≡ true) (members_of (Some a))) → (path : List ℕ) (t u : Ty) → LeadsTo rows path t u → is_sound rows t ≡ true → is_sound rows u ≡ true
-leads_sound rows h path t u l sound = subst (λ t. is_sound rows t ≡ true) l.1.1 (members_sound rows h path t l.0 l.1.0 sound)
 
 -- what has members that are parts is a part
 row_part : (rows : List Aggregate) (t u : Ty) (i : ℕ) → slice_get (members_of (row_of rows t)) i ≡ Some u → IsPart t

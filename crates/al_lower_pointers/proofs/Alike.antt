@@ -1,7 +1,7 @@
 -- Types that are the same for every rule are the same to all others, and have the same values.
-use Rattle.std.proofs.Common.{◌≡◌, ℕ, List, [], ◌∷◌, ◌++◌, refl, sym, ap, ap₂, ◌∙◌, arith}
+use Rattle.std.proofs.Common.{◌≡◌, ℕ, List, [], ◌∷◌, ◌++◌, refl, sym, ap, ap₂, ◌∙◌, subst, arith}
 use Rattle.std.specs.Prelude.{Bool, true, false, ◌&&◌, nat_eq}
-use Rattle.std.specs.List.{flat_map}
+use Rattle.std.specs.List.{AllByRecursion, flat_map}
 use Rattle.std.proofs.lemmas.Grind.{common_steps}
 use Rattle.al_base.specs.declared.arith.Kind.{Kind}
 use Rattle.al_base.specs.declared.arith.Kind.TheVariants as kind
@@ -13,15 +13,32 @@ use Rattle.al_typed.specs.declared.ty.Ty.TheViews.{out-Ty}
 use Rattle.al_typed.specs.declared.ty.Ty.TheBlock.{hidden-the_row-Ty-0, hidden-the_row-Ty-1}
 use denote.Hole.Carrier.{hidden, out}
 use Rattle.al_typed.specs.TyFold.{fold_ty, fold_types}
-use Rattle.al_typed.specs.Types.{is_void}
+use Rattle.al_typed.specs.Types.{is_void, is_array}
 use Rattle.al_typed.specs.Layout.{Layout, layout, layout_of, layout_step, layouts_after, in_order, repeated}
 use Rattle.al_meaning.specs.Here.{units_in}
-use Rattle.al_meaning.specs.Alike.{are_alike, all_alike, same_kind}
+use Rattle.al_typed.specs.Alike.{are_alike, all_alike, same_kind}
+use Rattle.al_lower_values.proofs.Calls.{SameCalls}
 
 both_true : (a b : Bool) → (a && b) ≡ true → (a ≡ true) × (b ≡ true)
 both_true true true e = (refl, refl)
 both_true true false e = absurd (cc)
 both_true false b e = absurd (cc)
+
+both_hold : (a b : Bool) → a ≡ true → b ≡ true → (a && b) ≡ true
+both_hold true b p q = q
+both_hold false b p q = p
+
+kind_self : (k : Kind) → same_kind k k ≡ true
+kind_self kind.Byte = refl
+kind_self kind.Sint = refl
+kind_self kind.Usint = refl
+kind_self kind.Int = refl
+kind_self kind.Uint = refl
+kind_self kind.Lint = refl
+kind_self kind.Ulint = refl
+
+number_self : (n : ℕ) → nat_eq n n ≡ true
+number_self n = grind (arith, common_steps)
 
 kinds_are : (k j : Kind) → same_kind k j ≡ true → k ≡ j
 kinds_are kind.Byte kind.Byte e = refl
@@ -98,25 +115,66 @@ alike_void (Aggregate n) (Aggregate m) e = refl
 alike_void (Function' _ a _ ps) (Function' _ b _ qs) e = refl
 alike_void _ _ e = absurd (cc)
 
+pub alike_array : (a b : Ty) → are_alike a b ≡ true → is_array a ≡ is_array b
+unfolding is_array out-Ty out
+alike_array Void Void e = refl
+alike_array (Integer k) (Integer j) e = refl
+alike_array (Pointer' _ a) (Pointer' _ b) e = refl
+alike_array (Array' _ a n) (Array' _ b m) e = refl
+alike_array (Chan' _ a n) (Chan' _ b m) e = refl
+alike_array (Tuple' _ a) (Tuple' _ b) e = refl
+alike_array (Aggregate n) (Aggregate m) e = refl
+alike_array (Function' _ a _ ps) (Function' _ b _ qs) e = refl
+alike_array _ _ e = absurd (cc)
+
 row_units : (p : Program) {m n : _} (a : Row_of-Ty m) (b : Row_of-Ty n) → all_alike a b ≡ true → flat_map (units_in p) (items-the_row-Ty m a) ≡ flat_map (units_in p) (items-the_row-Ty n b)
 row_units p end_of-Ty end_of-Ty e = refl
 row_units p (more_of-Ty a more) (more_of-Ty b others) e = let q = both_true (are_alike a b) (all_alike more others) e in ap₂ (λ (us : List StorageUnit) vs. us ++ vs) (alike_units p a b q.0) (row_units p more others q.1)
 row_units p end_of-Ty (more_of-Ty b others) e = absurd (cc)
 row_units p (more_of-Ty a more) end_of-Ty e = absurd (cc)
 
--- what functions of types that are the same are given and give
-pub record SameCalls (p : Program) (t u : Ty) (ts us : List Ty) : Type 0 where
-  pub void : is_void t ≡ is_void u
-  pub given : units_in p t ≡ units_in p u
-  pub taken : flat_map (units_in p) ts ≡ flat_map (units_in p) us
+-- what holds of types and of all that are alike holds of the types of rows that are alike
+pub each_alike : (P : Ty → Type 0) → ((a b : Ty) → are_alike a b ≡ true → P b → P a) → {m n : _} (a : Row_of-Ty m) (b : Row_of-Ty n) → all_alike a b ≡ true → AllByRecursion P (items-the_row-Ty n b) → AllByRecursion P (items-the_row-Ty m a)
+each_alike P f end_of-Ty end_of-Ty e h = tt
+each_alike P f (more_of-Ty a more) (more_of-Ty b others) e h = let q = both_true (are_alike a b) (all_alike more others) e in (f a b q.0 h.0, each_alike P f more others q.1 h.1)
+each_alike P f end_of-Ty (more_of-Ty b others) e h = absurd (cc)
+each_alike P f (more_of-Ty a more) end_of-Ty e h = absurd (cc)
+
+-- types of functions that are the same return and take types that are
+pub alike_returns : (t u : Ty) (ts us : List Ty) → are_alike (ty.Function t ts) (ty.Function u us) ≡ true → are_alike t u ≡ true
+unfolding hidden-the_row-Ty-0 hidden
+alike_returns t u ts us e = (both_true (are_alike t u) true (both_true (are_alike t u && true) (all_alike (hidden-the_row-Ty-1 ts) (hidden-the_row-Ty-1 us)) e).0).0
+
+pub alike_parameters : (t u : Ty) (ts us : List Ty) → are_alike (ty.Function t ts) (ty.Function u us) ≡ true → all_alike (hidden-the_row-Ty-1 ts) (hidden-the_row-Ty-1 us) ≡ true
+unfolding hidden-the_row-Ty-0 hidden
+alike_parameters t u ts us e = (both_true (are_alike t u && true) (all_alike (hidden-the_row-Ty-1 ts) (hidden-the_row-Ty-1 us)) e).1
+
+pub each_parameter : (P : Ty → Type 0) → ((a b : Ty) → are_alike a b ≡ true → P b → P a) → (t u : Ty) (ts us : List Ty) → are_alike (ty.Function t ts) (ty.Function u us) ≡ true → AllByRecursion P us → AllByRecursion P ts
+each_parameter P f t u ts us e h =
+    subst (AllByRecursion P) (items_hidden-the_row-Ty-1 ts)
+    (each_alike P f (hidden-the_row-Ty-1 ts) (hidden-the_row-Ty-1 us) (alike_parameters t u ts us e) (subst (AllByRecursion P) (sym (items_hidden-the_row-Ty-1 us)) h))
 
 pub same_calls : (p : Program) (t u : Ty) (ts us : List Ty) → are_alike (ty.Function t ts) (ty.Function u us) ≡ true → SameCalls p t u ts us
-unfolding hidden-the_row-Ty-0 hidden
 same_calls p t u ts us e =
-    let q = both_true (are_alike t u && true) (all_alike (hidden-the_row-Ty-1 ts) (hidden-the_row-Ty-1 us)) e in
-    let r = (both_true (are_alike t u) true q.0).0 in
+    let r = alike_returns t u ts us e in
     record {
       void = alike_void t u r;
       given = alike_units p t u r;
-      taken = sym (ap (flat_map (units_in p)) (items_hidden-the_row-Ty-1 ts)) ∙ (row_units p (hidden-the_row-Ty-1 ts) (hidden-the_row-Ty-1 us) q.1 ∙ ap (flat_map (units_in p)) (items_hidden-the_row-Ty-1 us));
+      taken = sym (ap (flat_map (units_in p)) (items_hidden-the_row-Ty-1 ts)) ∙ (row_units p (hidden-the_row-Ty-1 ts) (hidden-the_row-Ty-1 us) (alike_parameters t u ts us e) ∙ ap (flat_map (units_in p)) (items_hidden-the_row-Ty-1 us));
     }
+
+-- each type is the same as itself
+mutual
+  pub alike_self : (a : Ty) → are_alike a a ≡ true
+  alike_self Void = refl
+  alike_self (Integer k) = kind_self k
+  alike_self (Pointer' _ a) = all_alike_self a
+  alike_self (Array' _ a n) = both_hold (all_alike a a) (nat_eq n n) (all_alike_self a) (number_self n)
+  alike_self (Chan' _ a n) = all_alike_self a
+  alike_self (Tuple' _ a) = all_alike_self a
+  alike_self (Aggregate n) = number_self n
+  alike_self (Function' _ a _ ps) = both_hold (all_alike a a) (all_alike ps ps) (all_alike_self a) (all_alike_self ps)
+
+  all_alike_self : {m : _} (a : Row_of-Ty m) → all_alike a a ≡ true
+  all_alike_self end_of-Ty = refl
+  all_alike_self (more_of-Ty a more) = both_hold (are_alike a a) (all_alike more more) (alike_self a) (all_alike_self more)

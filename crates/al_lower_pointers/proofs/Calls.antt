@@ -8,7 +8,7 @@ use Rattle.al_typed.specs.declared.program.Function.{Function as FunctionRow}
 use Rattle.al_typed.specs.Types.{is_void, is_array}
 use Rattle.al_typed.specs.Typed.{function_type, parameter_types}
 use Rattle.al_typed.specs.Layout.{unit_at}
-use Rattle.al_meaning.specs.Alike.{are_alike}
+use Rattle.al_typed.specs.Alike.{are_alike}
 use Rattle.al_meaning.specs.Here.{units_in}
 use Rattle.al_meaning.specs.Places.{function_at}
 use Rattle.al_meaning.specs.Calls.{joined, has_type, named_by}
@@ -25,7 +25,6 @@ use Rattle.al_lower_code.specs.Classes.{class_number, classes}
 use Rattle.al_lower_code.specs.Actions.{call_pointer_coded}
 use Rattle.al_lower_steps.specs.Slots.{Holds, HoldsGiven}
 use Rattle.al_lower_steps.specs.Site.{frame_at}
-use Rattle.al_lower_steps.specs.Given.{GivenOf}
 use Rattle.al_lower_steps.proofs.Slots.{holds_from_start}
 use Rattle.al_lower_steps.proofs.Steps.{moved, comes_out, has_front, has_back}
 use Rattle.al_lower_steps.proofs.Calls.{invoke_pointer_does, invoke_pointer_traps}
@@ -33,8 +32,8 @@ use Rattle.al_lower_claims.proofs.Variables.{stays_both, holds_stays, more_room}
 use Rattle.al_lower_claims.proofs.Claims.{Setting, scene, site, spot, Run, Has, count_of, Gave, IsWord, CodedDoes}
 use Rattle.al_lower_claims.proofs.Operands.{both_true, free_does}
 use Rattle.al_lower_values.proofs.Rows.{UnitsOfAll, RowDoes}
-use Rattle.al_lower_values.proofs.Calls.{CallsDo, calling_does}
-use Rattle.al_lower_pointers.proofs.Alike.{SameCalls, same_calls}
+use Rattle.al_lower_values.proofs.Calls.{CallsDo, SameCalls, gave_same, calling_does}
+use Rattle.al_lower_pointers.proofs.Alike.{same_calls}
 use Rattle.al_lower_pointers.proofs.Classes.{named_has_type, class_names}
 
 typed_alike : (t : Ty) (around : List ℕ) (f : FunctionRow) → has_type t around f ≡ true → (around ≡ []) × (are_alike t (function_type f) ≡ true)
@@ -44,11 +43,6 @@ typed_alike t (n ∷ around) f e = absurd (cc)
 module _ (k : Setting) (calls : CallsDo k) (has_classes : k.ir.classes ≡ classes k.ways.program) where
   abbrev pub call_pointer_means : Task (Option (List ℕ)) → Task (List (List ℕ)) → Ty → Task (Option (List ℕ))
   call_pointer_means m arguments callee env s next = value m env s (λ a env s. arguments env s (λ vs env s. call_found k.ways (joined vs) (named_by callee (slice_index a 0) 0 k.ways.program.functions) env s next))
-
-  -- what a function of another spelling of the type gives
-  gave_same : (t u : Ty) (ts us : List Ty) → SameCalls k.ways.program t u ts us → (o : Option (List ℕ)) → GivenOf k.ways.program u o → Gave k t o
-  gave_same t u ts us same None g = same.void ∙ g
-  gave_same t u ts us same (Some v) g = (same.void ∙ g.0, subst (λ q. AreOf q v) (sym same.given) g.1)
 
   module _ {m : Task (Option (List ℕ))} {mr : Task (List (List ℕ))} (t u : Ty) (ts : List Ty) (c : Coded) (row : Row) (word : IsWord k u) (void_words : is_void t ≡ true → count_of k t ≡ 0) (no_array : is_void t ≡ false → is_array t ≡ false) (hc : CodedDoes k m u c) (hr : RowDoes k mr ts row.keeps row.values) where
     abbrev callee : Ty
@@ -70,7 +64,7 @@ module _ (k : Setting) (calls : CallsDo k) (has_classes : k.ir.classes ≡ class
             let units : flat_map (units_in k.ways.program) ts ≡ given_units k.ways.program g = same.taken ∙ sym (ap (λ q. map (λ _. unit_at 0 4) q ++ flat_map (units_in k.ways.program) (parameter_types g)) a.0) in
             invoke_pointer_does (site k) (λ s. k.ways.call function (joined vs) s (λ o s. next o env s)) has.0 there (class_names k.ways.program k.ir callee w has_classes ∙ e) (λ s.
             (calls (frame_at (site k) (pc + 1) now) refl).by function g row_there (joined vs) (subst (λ q. AreOf q (joined vs)) units fits) (slots_from (to + 1) now) (holds_from_start (joined vs) (to + 1) now holds) s (λ o s. next o env s) (λ o s last3 gave holds3.
-            go o s last3 (gave_same t g.returns ts (parameter_types g) same o gave) holds3))
+            go o s last3 (gave_same k.ways.program t g.returns same.void same.given o gave) holds3))
 
     pub call_pointer_does : CodedDoes k (call_pointer_means m mr callee) t (call_pointer_coded (spot k) t (class_number k.ways.program callee) c row)
     call_pointer_does = calling_does k t (c.keeps && row.keeps) (λ to. c.value to to ++ (row.values (to + 1) ++ here (spot k) (InvokePointer (class_number k.ways.program callee) to (to + 1)))) void_words no_array (record {

@@ -6,7 +6,7 @@ use Rattle.al_typed.specs.declared.ty.Ty.{Ty}
 use Rattle.al_typed.specs.declared.program.Function.{Function as FunctionRow}
 use Rattle.al_typed.specs.declared.program.Program.{Program}
 use Rattle.al_typed.specs.Typed.{function_type}
-use Rattle.al_meaning.specs.Alike.{are_alike}
+use Rattle.al_typed.specs.Alike.{are_alike}
 use Rattle.al_meaning.specs.Places.{function_address}
 use Rattle.al_meaning.specs.Calls.{has_type, named_by}
 use Rattle.al_ir.specs.declared.ir.Ir.{Ir}

@@ -7,9 +7,8 @@ use Rattle.al_typed.specs.declared.ty.Ty.{Ty}
 use Rattle.al_typed.specs.declared.expression.TExpr.{TExpr}
 use Rattle.al_typed.specs.declared.expression.TTarget.{TTarget}
 use Rattle.al_typed.specs.declared.statement.TCommunication.TheVariants as talk
-use Rattle.al_typed.specs.Types.{is_array}
 use Rattle.al_typed.specs.Typed.{target_type}
-use Rattle.al_typed.specs.WellTyped.{is_sound, converts}
+use Rattle.al_typed.specs.WellTyped.{converts}
 use Rattle.al_meaning.specs.Words.{converted, fitted_to}
 use Rattle.al_meaning.specs.Here.{units_in}
 use Rattle.al_meaning.specs.Evaluate.{leaves_of}
@@ -29,6 +28,7 @@ use Rattle.al_lower_steps.proofs.Slots.{below_outside}
 use Rattle.al_lower_steps.proofs.Steps.{Runs, moved, comes_out, has_front, has_back}
 use Rattle.al_lower_claims.proofs.Moving.{trims_do}
 use Rattle.al_lower_claims.proofs.Variables.{vars_kept}
+use Rattle.al_lower_conversions.proofs.Plain.{converts_no_array, converts_to_no_array}
 use Rattle.al_lower_conversions.proofs.Parts.{made_fits, made_stays}
 use Rattle.al_lower_bodies.proofs.Bodies.{Body, setting, ways_in, site_of, scene_of, vars_of, spot_in}
 use Rattle.al_lower_alts.proofs.Dispatch.{WentIn}
@@ -53,15 +53,15 @@ module _ (b : Body) (line : ℕ) where
   pub record TargetIn (target : TTarget) : Type 0 where
     pub by : (jump : ℕ → Rest) (behind again : List Rest) (v : List ℕ) (from free pc : ℕ) (slots last : Slots) (env : Env) (st : Still) (next : Unit {0} → Rest) → (spot_in b).turns ≤ from → from + length v ≤ free → AreOf (units_in b.program (target_type target)) v → Holds slots from v → vars_of b env slots → HasAt (site_of b) pc (target_code target from free) → ((env2 : Env) (st : Still) (now last2 : Slots) → vars_of b env2 now → Runs (site_of b) (next tt env2 st) (pc + length (target_code target from free)) now last2 st) → Runs (site_of b) (aimed target (ways_in b line jump behind again) env st (λ places env st. save_all (ways_in b line jump behind again) (leaves_of target) places v env st next)) pc slots last st
 
-  pub received_went : (t : Ty) (target : TTarget) (chan : TExpr) → converts t (target_type target) ≡ true → is_sound b.program.aggregates t ≡ true → is_sound b.program.aggregates (target_type target) ≡ true → is_array t ≡ false → is_array (target_type target) ≡ false → TargetIn target → WentIn b line (talk.ReceiveInto t target chan)
-  received_went t target chan e st su na nu h = record {
+  pub received_went : (t : Ty) (target : TTarget) (chan : TExpr) → converts t (target_type target) ≡ true → TargetIn target → WentIn b line (talk.ReceiveInto t target chan)
+  received_went t target chan e h = record {
     by = λ jump behind again ws got free pc slots last env s0 next room high count small holds vars has go.
         let p = b.program in
         let u = target_type target in
         let k = setting b line 0 jump behind again in
         let us = units_in p t in
         let ca = trims line got us in
-        let many : length ws ≡ length us = count ∙ words_are p t na in
+        let many : length ws ≡ length us = count ∙ words_are p t (converts_no_array t u e) in
         trims_do (site_of b) us ws line got pc slots last s0 _ many small (has_front (site_of b) pc ca (rest_code (stays t u) t target got free) has) holds (λ now out held.
         let v = fitted_to us ws in
         let fits = fitted_twice us ws in
@@ -74,8 +74,8 @@ module _ (b : Body) (line : ℕ) where
     where
       goes : (c : Bool) → stays t (target_type target) ≡ c → (jump : ℕ → Rest) (behind again : List Rest) (v : List ℕ) (got free pc : ℕ) (slots last : Slots) (env : Env) (st0 : Still) (next : Unit {0} → Rest) → (spot_in b).turns ≤ got → got + length v ≤ free → AreOf (units_in b.program t) v → Holds slots got v → vars_of b env slots → HasAt (site_of b) pc (if c then target_code target got free else convert_code s t (target_type target) free got ++ target_code target free (free + words s (target_type target))) → ((env2 : Env) (st : Still) (now last2 : Slots) → vars_of b env2 now → Runs (site_of b) (next tt env2 st) (pc + length (if c then target_code target got free else convert_code s t (target_type target) free got ++ target_code target free (free + words s (target_type target)))) now last2 st) → Runs (site_of b) (aimed target (ways_in b line jump behind again) env st0 (λ places env st. save_all (ways_in b line jump behind again) (leaves_of target) places (converted b.program.aggregates t (target_type target) v) env st next)) pc slots last st0
       goes true q jump behind again v got free pc slots last env st0 next room high fits holds vars has go =
-          let same = made_stays (setting b line 0 jump behind again) t (target_type target) e q st v fits in
-          let made = made_fits (setting b line 0 jump behind again) t (target_type target) e st su v fits in
+          let same = made_stays (setting b line 0 jump behind again) t (target_type target) e q v fits in
+          let made = made_fits (setting b line 0 jump behind again) t (target_type target) e v fits in
           comes_out (site_of b) (ap (λ x. aimed target (ways_in b line jump behind again) env st0 (λ places env st. save_all (ways_in b line jump behind again) (leaves_of target) places x env st next)) same)
           (h.by jump behind again v got free pc slots last env st0 next room high (subst (AreOf (units_in b.program (target_type target))) same made) holds vars has go)
       goes false q jump behind again v got free pc slots last env st0 next room high fits holds vars has go =
@@ -83,14 +83,14 @@ module _ (b : Body) (line : ℕ) where
           let u = target_type target in
           let k = setting b line 0 jump behind again in
           let x = converted p.aggregates t u v in
-          let made = made_fits k t u e st su v fits in
+          let made = made_fits k t u e v fits in
           let n = length_of (units_in p t) v fits in
           let m = length_of (units_in p u) x made in
-          let w = words_are p u nu in
+          let w = words_are p u (converts_to_no_array t u e) in
           let ca = convert_code s t u free got in
           let cb = target_code target free (free + words s u) in
           let len : pc + length ca + length cb ≡ pc + length (ca ++ cb) = omega (arith, length-append ca cb) in
-          part_made k t u e st su v fits free got pc slots last st0 _ holds (omega (arith, high, n)) (has_front (site_of b) pc ca cb has) (λ now out held.
+          part_made k t u e v fits free got pc slots last st0 _ holds (omega (arith, high, n)) (has_front (site_of b) pc ca cb has) (λ now out held.
           let vars2 = vars_kept (scene_of b 0) env free now slots (omega (arith, room, high)) (below_outside free (length (units_in p u)) now slots out) vars in
           h.by jump behind again x free (free + words s u) (pc + length ca) now last env st0 next (omega (arith, room, high)) (omega (arith, m, w)) made held vars2 (has_back (site_of b) pc ca cb has) (λ env2 st2 now2 last2 vars3.
           moved (site_of b) len (go env2 st2 now2 last2 vars3)))

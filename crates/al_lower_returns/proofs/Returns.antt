@@ -39,6 +39,7 @@ use Rattle.al_lower_claims.proofs.Moving.{copies_do, zeros_do}
 use Rattle.al_lower_claims.proofs.Variables.{lone}
 use Rattle.al_lower_claims.proofs.Claims.{site, spot, GoesOn}
 use Rattle.al_lower_claims.proofs.Operands.{free_does as value_in_free}
+use Rattle.al_lower_values.proofs.Calls.{gave_same}
 use Rattle.al_lower_bodies.proofs.Bodies.{Body, setting, ways_in, site_of, vars_of, spot_in, Goes, EffectIn, ValueIn}
 use Rattle.al_lower_bodies.proofs.Starting.{StartIn, start_does}
 
@@ -173,8 +174,8 @@ module _ (b : Body) where
   -- ---- a call in the place of the function
 
   -- what it returns, the function returns
-  pub become_in_does : {line function : ℕ} {t : Ty} {receiver : Held-TExpr-Call-2} (shape : _) (arguments : Row_of-TExpr _) → t ≡ b.row.returns → StartIn b line t function receiver arguments → EffectIn b line (become_code (line_spot line) (Call' t function receiver shape arguments)) (λ w env s next. start_of (Call' t function receiver shape arguments) w env s (λ start env s. w.become line start.code start.words env s))
-  become_in_does {line} {function} {t} {receiver} shape arguments same h = record {
+  pub become_in_does : {line function : ℕ} {t : Ty} {receiver : Held-TExpr-Call-2} (shape : _) (arguments : Row_of-TExpr _) → is_void t ≡ is_void b.row.returns → units_in b.program t ≡ units_in b.program b.row.returns → StartIn b line t function receiver arguments → EffectIn b line (become_code (line_spot line) (Call' t function receiver shape arguments)) (λ w env s next. start_of (Call' t function receiver shape arguments) w env s (λ start env s. w.become line start.code start.words env s))
+  become_in_does {line} {function} {t} {receiver} shape arguments void given h = record {
     by = λ jump behind again pc next has go. record {
       by = λ env st slots last vars.
           let to = (spot_in b).turns in
@@ -186,7 +187,7 @@ module _ (b : Body) where
           start_does b shape arguments h jump behind again pc slots last env st (λ start env s. become_in b.row.locals b.instead b.given line start.code start.words env s) vars (has_front (site_of b) pc ca (cb ++ cd) has) (λ ws env2 s now last2 fits count vars2 holds.
           freed_does line (pc + length ca) now last2 env2 s (λ s. turn_in line s (λ s. b.instead function ws s b.given)) (has_front (site_of b) (pc + length ca) cb cd back) vars2 (λ s.
           become_does (site_of b) (λ s. b.instead function ws s b.given) (has_back (site_of b) (pc + length ca) cb cd back).0 (λ s.
-          b.becomes.by function h.row h.there ws fits (slots_from to now) (holds_from_start ws to now holds) s b.given (λ o s last gives held. b.returns o s last (subst (λ t. GivenOf b.program t o) (sym h.returns ∙ same) gives) held))));
+          b.becomes.by function h.row h.there ws fits (slots_from to now) (holds_from_start ws to now holds) s b.given (λ o s last gives held. b.returns o s last (gave_same b.program b.row.returns h.row.returns (sym void ∙ h.same.void) (sym given ∙ h.same.given) o gives) held))));
     };
   }
 

@@ -4,6 +4,7 @@ use Rattle.std.specs.Prelude.{Bool, true, false, ◌&&◌}
 use Rattle.std.specs.List.{flat_map}
 use Rattle.al_typed.specs.declared.ty.Ty.{Ty}
 use Rattle.al_typed.specs.declared.program.Function.{Function as FunctionRow}
+use Rattle.al_typed.specs.declared.program.Program.{Program}
 use Rattle.al_typed.specs.Types.{is_void, is_array}
 use Rattle.al_typed.specs.Typed.{parameter_types}
 use Rattle.al_typed.specs.Layout.{unit_at}
@@ -23,6 +24,7 @@ use Rattle.al_lower_code.specs.Coded.{Row, Given}
 use Rattle.al_lower_code.specs.Actions.{arguments_code, calling, call_coded}
 use Rattle.al_lower_steps.specs.Slots.{Holds, HoldsGiven, Outside}
 use Rattle.al_lower_steps.specs.Site.{frame_at}
+use Rattle.al_lower_steps.specs.Given.{GivenOf}
 use Rattle.al_lower_steps.proofs.Slots.{holds_join, holds_at, holds_from_start}
 use Rattle.al_lower_steps.proofs.Steps.{moved, has_front, has_back}
 use Rattle.al_lower_steps.proofs.Calls.{invoke_does}
@@ -50,6 +52,17 @@ CallsDo k = (frame : Frame) → frame.function ≡ k.ways.function → CalledDoe
 -- what is called gives its value to the frame at hand
 pub record Calling (k : Setting) (m : Task (Option (List ℕ))) (t : Ty) (keeps : Bool) (code : (to : ℕ) → List Operation) : Type 0 where
   pub by : (to pc : ℕ) (slots last : Slots) (env : Env) (s : Still) (next : Option (List ℕ) → Rest) → HasRoom k to → HasVars k env slots → Has k pc (code to) → ((o : Option (List ℕ)) (env2 : Env) (s : Still) (now last : Slots) → Gave k t o → HasVars k env2 now → Stays (scene k) to now slots → HoldsGiven last 0 o → (keeps ≡ true → env2 ≡ env) → Run k (next o env2 s) (pc + length (code to)) now last s) → Run k (m env s next) pc slots last s
+
+-- what functions of types that are the same are given and give
+pub record SameCalls (p : Program) (t u : Ty) (ts us : List Ty) : Type 0 where
+  pub void : is_void t ≡ is_void u
+  pub given : units_in p t ≡ units_in p u
+  pub taken : flat_map (units_in p) ts ≡ flat_map (units_in p) us
+
+-- a value of a type is one of another type with the same units
+pub gave_same : (p : Program) (t u : Ty) → is_void t ≡ is_void u → units_in p t ≡ units_in p u → (o : Option (List ℕ)) → GivenOf p u o → GivenOf p t o
+gave_same p t u void given None g = void ∙ g
+gave_same p t u void given (Some v) g = (void ∙ g.0, subst (λ q. AreOf q v) (sym given) g.1)
 
 module _ (k : Setting) where
   -- the words that it left go to where they are wanted
@@ -92,8 +105,8 @@ module _ (k : Setting) where
   abbrev pub call_means : Task (List (List ℕ)) → Task (List (List ℕ)) → ℕ → Task (Option (List ℕ))
   call_means object arguments function env s next = object env s (λ os env s. arguments env s (λ vs env s. turn_in k.ways.line s (λ s. k.ways.call function (joined (os ++ vs)) s (λ o s. next o env s))))
 
-  pub call_does : {mo mr : Task (List (List ℕ))} {ts us : List Ty} (t : Ty) (function : ℕ) (g : FunctionRow) (object : Given) (row : Row) → CallsDo k → function_at k.ways.program function ≡ Some g → g.around ≡ [] → t ≡ g.returns → parameter_types g ≡ ts ++ us → object.words ≡ length (flat_map (units_in k.ways.program) ts) → (is_void t ≡ true → count_of k t ≡ 0) → (is_void t ≡ false → is_array t ≡ false) → RowDoes k mo ts object.keeps object.code → RowDoes k mr us row.keeps row.values → CodedDoes k (call_means mo mr function) t (call_coded (spot k) t function object row)
-  call_does {mo} {mr} {ts} {us} t function g object row calls there branch same_type takes given void_words no_array ho hr = calling_does t (object.keeps && row.keeps) (λ to. arguments_code object row to ++ here (spot k) (Invoke function to)) void_words no_array (record {
+  pub call_does : {mo mr : Task (List (List ℕ))} {ts us : List Ty} (t : Ty) (function : ℕ) (g : FunctionRow) (object : Given) (row : Row) → CallsDo k → function_at k.ways.program function ≡ Some g → g.around ≡ [] → SameCalls k.ways.program t g.returns (ts ++ us) (parameter_types g) → object.words ≡ length (flat_map (units_in k.ways.program) ts) → (is_void t ≡ true → count_of k t ≡ 0) → (is_void t ≡ false → is_array t ≡ false) → RowDoes k mo ts object.keeps object.code → RowDoes k mr us row.keeps row.values → CodedDoes k (call_means mo mr function) t (call_coded (spot k) t function object row)
+  call_does {mo} {mr} {ts} {us} t function g object row calls there branch alike given void_words no_array ho hr = calling_does t (object.keeps && row.keeps) (λ to. arguments_code object row to ++ here (spot k) (Invoke function to)) void_words no_array (record {
     by = λ to pc slots last env s next room vars has go.
         let ca = object.code to in
         let cb = row.values (to + object.words) in
@@ -106,11 +119,11 @@ module _ (k : Setting) where
         let is : words ≡ joined os ++ joined vs = flat_append (λ ws. ws) os vs in
         let kept : Holds now2 to (joined os) = holds_stays (scene k) (joined os) to (to + object.words) now2 now1 room (omega (arith, count)) st2 holds1 in
         let all : Holds now2 to words = subst (Holds now2 to) (sym is) (holds_join (joined os) (joined vs) to now2 kept (holds_at (joined vs) (to + object.words) (to + length (joined os)) now2 (ap (λ i. to + i) (sym count)) holds2)) in
-        let units : flat_map (units_in k.ways.program) ts ++ flat_map (units_in k.ways.program) us ≡ given_units k.ways.program g = sym (ap (λ q. map (λ _. unit_at 0 4) q ++ flat_map (units_in k.ways.program) (parameter_types g)) branch ∙ (ap (flat_map (units_in k.ways.program)) takes ∙ flat_append (units_in k.ways.program) ts us)) in
+        let units : flat_map (units_in k.ways.program) ts ++ flat_map (units_in k.ways.program) us ≡ given_units k.ways.program g = sym (ap (λ q. map (λ _. unit_at 0 4) q ++ flat_map (units_in k.ways.program) (parameter_types g)) branch ∙ (sym alike.taken ∙ flat_append (units_in k.ways.program) ts us)) in
         let fits : AreOf (given_units k.ways.program g) words = subst (λ q. AreOf q words) units (subst (AreOf (flat_map (units_in k.ways.program) ts ++ flat_map (units_in k.ways.program) us)) (sym is) (join_fits (flat_map (units_in k.ways.program) ts) (flat_map (units_in k.ways.program) us) (joined os) (joined vs) fo fv)) in
         let at : pc + length (ca ++ cb) ≡ pc + length ca + length cb = omega (arith, length-append ca cb) in
         let end : pc + length ca + length cb + 1 ≡ pc + length ((ca ++ cb) ++ cc2) = omega (arith, length-append ca cb, length-append (ca ++ cb) cc2) in
         invoke_does (site k) (λ s. k.ways.call function words s (λ o s. next o env2 s)) (subst (λ n. Has k n cc2) at (has_back (site k) pc (ca ++ cb) cc2 has)).0 (λ s.
         (calls (frame_at (site k) (pc + length ca + length cb + 1) now2) refl).by function g there words fits (slots_from to now2) (holds_from_start words to now2 all) s (λ o s. next o env2 s) (λ o s last3 gave holds3.
-        moved (site k) end (go o env2 s now2 last3 (subst (λ q. Gave k q o) (sym same_type) gave) vars2 (stays_both (scene k) to (to + object.words) now2 now1 slots (omega arith) st2 st1) holds3 (λ e. let b = both_true object.keeps row.keeps e in same2 b.1 ∙ same1 b.0))))));
+        moved (site k) end (go o env2 s now2 last3 (gave_same k.ways.program t g.returns alike.void alike.given o gave) vars2 (stays_both (scene k) to (to + object.words) now2 now1 slots (omega arith) st2 st1) holds3 (λ e. let b = both_true object.keeps row.keeps e in same2 b.1 ∙ same1 b.0))))));
   })

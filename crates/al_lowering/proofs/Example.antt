@@ -1,4 +1,4 @@
--- The worked program meets all that lowering asks.
+-- The worked program meets all that lowering asks, and the other two are not well typed.
 use Rattle.std.proofs.Common.{◌≡◌, ℕ, zero, suc, [], ◌∷◌, Some, None, refl, subst, inl, inr, arith}
 use Rattle.std.specs.Prelude.{true, false, ◌<◌, ◌≤◌, ◌^◌, take, All, AllPairs, slice_get}
 use Rattle.std.proofs.lemmas.List.Elements.{All-from_recursion, All-nil}
@@ -13,14 +13,13 @@ use Rattle.al_typed.specs.declared.program.Function.{Function}
 use Rattle.al_typed.specs.declared.program.StartValue.{StartValue}
 use Rattle.al_typed.specs.declared.ty.Ty.TheVariants as ty
 use Rattle.al_typed.specs.declared.ty.Ty.TheViews.{out-Ty}
-use Rattle.al_typed.specs.declared.ty.Ty.TheBlock.{hidden-the_row-Ty-0}
+use Rattle.al_typed.specs.declared.ty.Ty.TheBlock.{hidden-the_row-Ty-0, hidden-the_row-Ty-1}
 use denote.Hole.Carrier.{hidden, out}
-use Rattle.al_typed.specs.Types.{int, is_array, is_void, is_complete, may_be_private}
+use Rattle.al_typed.specs.Types.{IsAggregate, int, is_array, is_void, is_complete, may_be_private}
 use Rattle.al_typed.specs.Layout.{IsLaidOut, Keeps, members_of, layout, layout_of, layouts_after, aggregate_layout, member, row_of, rounded, followed, in_order}
 use Rattle.al_typed.specs.WellTyped.{Scope, LeadsTo, AreBounds, IsLocalOf, Starts, is_stored, IsFunction, IsStatement, AreStatements, IsValue, AreValues, IsPlace, IsTarget, IsGiven, IsGlobal, IsWellTyped, names_in, no_labels}
 use Rattle.al_lowering.specs.Addresses.{AddressesAreWords}
-use Rattle.al_lowering.specs.Fitting.{IsFitStatement, IsFit}
-use Rattle.al_lowering.specs.Example.{s_type, s_pointer, s_row, g_row, s_local, g_place, f_row, main_row, example}
+use Rattle.al_lowering.specs.Example.{s_type, s_pointer, s_row, g_row, s_local, g_place, f_row, main_row, example, plain, void_returned, no_value, x_local, x_member, no_member}
 use Rattle.al_lowering.proofs.Addresses.{are_words}
 
 none_there : {A : Type 0} (n : ℕ) (a : A) → slice_get [] n ≡ Some a → ⊥
@@ -73,8 +72,8 @@ unfolding IsValue IsPlace is_complete is_array out-Ty out hidden-the_row-TPlace-
 f_value = ((s_type, (f_pointer, (refl, leads))), (refl, refl))
 
 f_body : IsStatement (here f_row) (record { number = 0; breaks = 0; loops = 0; labels = no_labels }) f_row.body
-unfolding IsStatement AreStatements hidden-the_row-TStmt-0 hidden
-f_body = ((f_value, refl), tt)
+unfolding IsStatement AreStatements is_void out-Ty out hidden-the_row-TStmt-0 hidden
+f_body = ((f_value, (refl, refl)), tt)
 
 g_there : IsPlace (here main_row) g_place
 unfolding IsPlace
@@ -82,11 +81,11 @@ g_there = (g_row, (refl, refl))
 
 sets_member : IsValue (here main_row) (expr.Assign int (target.Into (place.Member int g_place (0 ∷ []))) (expr.Constant int 7))
 unfolding IsValue IsTarget IsPlace is_complete is_array out-Ty out hidden-the_row-TTarget-2 hidden-the_row-TExpr-3 hidden-the_row-TExpr-1 hidden-the_row-TPlace-0 hidden
-sets_member = (refl, ((g_there, leads), (refl, ((kind.Int, (refl, omega arith)), refl))))
+sets_member = (refl, ((g_there, ((0, refl), leads)), (refl, ((kind.Int, (refl, omega arith)), refl))))
 
 prints_call : IsValue (here main_row) (expr.Print ty.Void (print.Signed ∷ []) (expr.Call int 0 None (expr.Address s_pointer g_place ∷ []) ∷ []))
-unfolding IsValue AreValues IsGiven hidden-the_row-TTarget-2 hidden-the_row-TExpr-3 hidden-the_row-TExpr-1 hidden-the_row-TPlace-0 hidden-the_row-TTarget-5 hidden
-prints_call = (refl, ((([], (refl, (((g_there, ((g_row, (refl, refl)), refl)), tt), (f_row, ((refl, refl), (refl, refl)))))), tt), ((kind.Int, (refl, refl)), tt)))
+unfolding IsValue AreValues IsGiven hidden-the_row-TTarget-2 hidden-the_row-TExpr-3 hidden-the_row-TExpr-1 hidden-the_row-TPlace-0 hidden-the_row-TTarget-5 hidden-the_row-Ty-0 hidden-the_row-Ty-1 hidden
+prints_call = (refl, ((([], (refl, (((g_there, ((g_row, (refl, refl)), refl)), tt), (f_row, ((refl, refl), refl))))), tt), ((kind.Int, (refl, refl)), tt)))
 
 main_body : IsStatement (here main_row) (record { number = 1; breaks = 0; loops = 0; labels = no_labels }) main_row.body
 unfolding IsStatement AreStatements hidden-the_row-TStmt-0 hidden
@@ -137,6 +136,18 @@ pub addresses_are_words : AddressesAreWords example
 unfolding layout layout_of layouts_after aggregate_layout rounded followed in_order
 addresses_are_words = are_words example (omega arith) (omega arith)
 
-pub fit : IsFit example
-unfolding is_void out-Ty out hidden-the_row-TStmt-0 hidden-the_row-TTarget-2 hidden-the_row-TExpr-3 hidden-the_row-TExpr-1 hidden-the_row-TPlace-0 hidden-the_row-TTarget-5 hidden
-fit = each_of_two (λ n f. IsFitStatement f.body) f_row main_row ((tt, refl), tt) ((tt, (((0, refl), tt), tt)), ((tt, ((tt, (tt, tt)), tt)), tt))
+-- ---- what is not well typed
+
+false_is_not : true ≡ false → ⊥
+false_is_not e = cc
+
+int_is_no_aggregate : IsAggregate int → ⊥
+int_is_no_aggregate a = let e = a.1 in cc
+
+pub value_refused : IsWellTyped no_value → ⊥
+unfolding IsStatement AreStatements is_void out-Ty out hidden-the_row-TStmt-0 hidden-the_row-TExpr-3 hidden
+value_refused W = false_is_not (W.functions 0 (plain [] (void_returned ∷ [])) refl).body.0.1.0
+
+pub member_refused : IsWellTyped no_member → ⊥
+unfolding IsStatement AreStatements IsValue IsPlace hidden-the_row-TStmt-0 hidden-the_row-TPlace-0 hidden-the_row-TExpr-1 hidden
+member_refused W = int_is_no_aggregate (W.functions 0 (plain (x_local ∷ []) (x_member ∷ [])) refl).body.0.1.0.1.0

@@ -1,5 +1,3 @@
-mod Terms
-mod Statements
 mod Addresses
 mod Main
 mod Example

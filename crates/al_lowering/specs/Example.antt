@@ -1,11 +1,12 @@
--- A program that meets all that lowering asks: an aggregate, a pointer to it, members and a call.
-use Rattle.std.specs.Prelude.{false, [], ◌∷◌, None, Some}
+-- A program that meets all that lowering asks: an aggregate, a pointer to it, members and a call; and two that are not well typed.
+use Rattle.std.specs.Prelude.{false, List, [], ◌∷◌, None, Some}
 use Rattle.al_base.specs.declared.arith.Kind.TheVariants as kind
 use Rattle.al_typed.specs.declared.expression.PrintPiece.TheVariants as print
 use Rattle.al_typed.specs.declared.expression.TTarget.TheVariants as target
 use Rattle.al_typed.specs.declared.expression.TExpr.TheVariants as expr
 use Rattle.al_typed.specs.declared.expression.TPlace.{TPlace}
 use Rattle.al_typed.specs.declared.expression.TPlace.TheVariants as place
+use Rattle.al_typed.specs.declared.statement.TStmt.{TStmt}
 use Rattle.al_typed.specs.declared.statement.TStmt.TheVariants as stmt
 use Rattle.al_typed.specs.declared.program.Aggregate.{Aggregate}
 use Rattle.al_typed.specs.declared.program.Function.{Function}
@@ -65,3 +66,25 @@ main_row = record {
 
 abbrev pub example : Program
 example = record { aggregates = s_row ∷ []; globals = g_row ∷ []; strings = []; elements = []; functions = f_row ∷ main_row ∷ []; main = 1 }
+
+-- ---- void main(){return g();} void g(){}
+
+abbrev pub plain : List Local → List TStmt → Function
+plain locals body = record { name = []; line = 1; returns = ty.Void; parameters = 0; locals = locals; around = []; labels = 0; body = stmt.Block 1 body }
+
+abbrev pub void_returned : TStmt
+void_returned = stmt.Return 1 (Some (expr.Call ty.Void 1 None []))
+
+abbrev pub no_value : Program
+no_value = record { aggregates = []; globals = []; strings = []; elements = []; functions = plain [] (void_returned ∷ []) ∷ plain [] [] ∷ []; main = 0 }
+
+-- ---- a path of no members leads from `int x` to itself, but x has no address
+
+abbrev pub x_local : Local
+x_local = record { name = []; ty = int; is_shared = false }
+
+abbrev pub x_member : TStmt
+x_member = stmt.Value 1 [] (expr.Load int (place.Member int (place.Local int 0) []))
+
+abbrev pub no_member : Program
+no_member = record { aggregates = []; globals = []; strings = []; elements = []; functions = plain (x_local ∷ []) (x_member ∷ []) ∷ []; main = 0 }

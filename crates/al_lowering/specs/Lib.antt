@@ -1,4 +1,3 @@
 pub mod Addresses
-pub mod Fitting
 pub mod Example
 pub mod Runs

@@ -19,7 +19,7 @@ use Rattle.al_typed.specs.Typed.{type_of, place_type, function_type}
 use Rattle.al_typed.specs.Measures.{function_slots}
 use Rattle.al_meaning.specs.Words.{fitted_to, zero_words}
 use Rattle.al_meaning.specs.Places.{function_at, locals_of, has_block, function_address, path_offset, words_in}
-use Rattle.al_meaning.specs.Alike.{are_alike}
+use Rattle.al_typed.specs.Alike.{are_alike}
 use Rattle.al_meaning.specs.Items.{Words, Work, Eval, Find, PassPlace, PassPointer, PassPart, Enter, TakeBlock, SetBlock, StoreParameter, CountReturn, Leave, Item, Frame, Control}
 use Rattle.al_meaning.specs.Parts.{exprs, receiver_of, item, to_do}
 use Rattle.al_meaning.specs.Here.{Here, Next, control_at, function_here, member_type, pointee, traps, units_in, with_items}

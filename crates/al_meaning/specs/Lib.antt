@@ -1,7 +1,6 @@
 pub mod Words
 pub mod Places
 pub mod Shown
-pub mod Alike
 pub mod Items
 pub mod Parts
 pub mod Here

@@ -1,5 +1,5 @@
 -- The initializers of a text have no string constants but those of its items, and a program has the globals of the environment.
-use Rattle.std.proofs.Common.{◌≡◌, ◌++◌, ℕ, suc, ◌+◌, false, List, [], ◌∷◌, length, map, flat_map, Option, Some, None, refl, sym, ap, ◌∙◌, subst}
+use Rattle.std.proofs.Common.{◌≡◌, ◌++◌, ℕ, suc, ◌+◌, Bool, false, List, [], ◌∷◌, length, map, flat_map, Option, Some, None, refl, sym, ap, ◌∙◌, subst}
 use Rattle.al_tree.specs.declared.item.Initializer.{Initializer, roll-Initializer, map-Initializer, fold-roll-Initializer}
 use Rattle.al_tree.specs.declared.item.Initializer.TheFolds.{ind-Initializer}
 use Rattle.al_tree.specs.declared.item.Initializer.TheOpen.{Initializer-F}
@@ -22,9 +22,9 @@ use Rattle.al_tree_laws.specs.Texts as tree
 use Rattle.al_short_programs.proofs.Outcomes.{good_is, and_then_good, judge_good}
 use Rattle.al_short_programs.proofs.PartsAre.{Adds, none, next, expression_grows}
 
-module _ (n : ℕ) (env : Environment) (here : Here) where
+module _ (Q : List ℕ → Bool) (env : Environment) (here : Here) where
   abbrev Grows : Initializer → Type 0
-  Grows i = (q : Parts) → Adds n (initializer_texts i) q (written env here i q)
+  Grows i = (q : Parts) → Adds Q (initializer_texts i) q (written env here i q)
 
   abbrev Checked : Type 0
   Checked = (i : Initializer) × Grows i
@@ -32,57 +32,57 @@ module _ (n : ℕ) (env : Environment) (here : Here) where
   abbrev trees : List Checked → List Initializer
   trees ys = map (λ y. y.0) ys
 
-  each_grows : (ys : List Checked) (q : Parts) → Adds n (joined (map initializer_texts (trees ys))) q (each (λ (g : Gathering). g) (map (written env here) (trees ys)) q)
-  each_grows [] q = none n q q refl
-  each_grows (y ∷ ys) q = next n (y.1 q) (each_grows ys (written env here y.0 q))
+  each_grows : (ys : List Checked) (q : Parts) → Adds Q (joined (map initializer_texts (trees ys))) q (each (λ (g : Gathering). g) (map (written env here) (trees ys)) q)
+  each_grows [] q = none Q q q refl
+  each_grows (y ∷ ys) q = next Q (y.1 q) (each_grows ys (written env here y.0 q))
 
   abbrev tree_of : Initializer-F Checked → Initializer-F Initializer
   tree_of y = map-Initializer Checked Initializer (λ c. c.0) y
 
   step_grows : (y : Initializer-F Checked) (q : Parts)
-      → Adds n (initializer_step (map-Initializer Initializer Texts initializer_texts (tree_of y))) q (written_step env here (map-Initializer Initializer Gathering (written env here) (tree_of y)) q)
-  step_grows (Initializer-F.Value e) q = expression_grows n env here e false q
+      → Adds Q (initializer_step (map-Initializer Initializer Texts initializer_texts (tree_of y))) q (written_step env here (map-Initializer Initializer Gathering (written env here) (tree_of y)) q)
+  step_grows (Initializer-F.Value e) q = expression_grows Q env here e false q
   step_grows (Initializer-F.Braces at parts) q = each_grows parts q
 
   rolled_grows : (y : Initializer-F Checked) → Grows (roll-Initializer (tree_of y))
   unfolding initializer_texts written
   rolled_grows y q =
       let z = tree_of y in
-      subst (λ ts. Adds n ts q (written env here (roll-Initializer z) q)) (sym (fold-roll-Initializer Texts initializer_step z))
-      (subst (λ (g : Gathering). Adds n (initializer_step (map-Initializer Initializer Texts initializer_texts z)) q (g q)) (sym (fold-roll-Initializer Gathering (written_step env here) z)) (step_grows y q))
+      subst (λ ts. Adds Q ts q (written env here (roll-Initializer z) q)) (sym (fold-roll-Initializer Texts initializer_step z))
+      (subst (λ (g : Gathering). Adds Q (initializer_step (map-Initializer Initializer Texts initializer_texts z)) q (g q)) (sym (fold-roll-Initializer Gathering (written_step env here) z)) (step_grows y q))
 
-  initializer_grows : (i : Initializer) (q : Parts) → Adds n (initializer_texts i) q (written env here i q)
+  initializer_grows : (i : Initializer) (q : Parts) → Adds Q (initializer_texts i) q (written env here i q)
   initializer_grows i = ind-Initializer Grows (λ x y is. subst (λ z. Grows (roll-Initializer z)) is (rolled_grows y)) i
 
-  optional_grows : (o : Option Initializer) (q : Parts) → Adds n (tree.optional initializer_texts o) q (optional (written env here) o q)
-  optional_grows None q = none n q q refl
+  optional_grows : (o : Option Initializer) (q : Parts) → Adds Q (tree.optional initializer_texts o) q (optional (written env here) o q)
+  optional_grows None q = none Q q q refl
   optional_grows (Some i) q = initializer_grows i q
 
-  declarator_grows : (d : Declarator) (q : Parts) → Adds n (declarator_texts d) q (written_by env here d q)
+  declarator_grows : (d : Declarator) (q : Parts) → Adds Q (declarator_texts d) q (written_by env here d q)
   declarator_grows (declarator.Global dcl value) q = optional_grows value q
-  declarator_grows (declarator.Function head) q = none n q q refl
+  declarator_grows (declarator.Function head) q = none Q q q refl
 
-  declarators_grow : (ds : List Declarator) (q : Parts) → Adds n (flat_map declarator_texts ds) q (each (written_by env here) ds q)
-  declarators_grow [] q = none n q q refl
-  declarators_grow (d ∷ ds) q = next n (declarator_grows d q) (declarators_grow ds (written_by env here d q))
+  declarators_grow : (ds : List Declarator) (q : Parts) → Adds Q (flat_map declarator_texts ds) q (each (written_by env here) ds q)
+  declarators_grow [] q = none Q q q refl
+  declarators_grow (d ∷ ds) q = next Q (declarator_grows d q) (declarators_grow ds (written_by env here d q))
 
-  item_grows : (i : Item) (q : Parts) → Adds n (global_texts i) q (written_in env here i q)
+  item_grows : (i : Item) (q : Parts) → Adds Q (global_texts i) q (written_in env here i q)
   unfolding written_in
-  item_grows (item.Typedef at base dcl) q = none n q q refl
-  item_grows (item.FunctionType at base stars name ps) q = none n q q refl
-  item_grows (item.Forward at kind name) q = none n q q refl
-  item_grows (item.Aggregate at kind name members) q = none n q q refl
-  item_grows (item.Adt at name ps members) q = none n q q refl
-  item_grows (item.Enum at name list) q = none n q q refl
+  item_grows (item.Typedef at base dcl) q = none Q q q refl
+  item_grows (item.FunctionType at base stars name ps) q = none Q q q refl
+  item_grows (item.Forward at kind name) q = none Q q q refl
+  item_grows (item.Aggregate at kind name members) q = none Q q q refl
+  item_grows (item.Adt at name ps members) q = none Q q q refl
+  item_grows (item.Enum at name list) q = none Q q q refl
   item_grows (item.Declare at scope base list) q = declarators_grow list q
-  item_grows (item.Function at scope base head body) q = none n q q refl
+  item_grows (item.Function at scope base head body) q = none Q q q refl
 
-  items_grow : (is : List Item) (q : Parts) → Adds n (flat_map global_texts is) q (each (written_in env here) is q)
-  items_grow [] q = none n q q refl
-  items_grow (i ∷ is) q = next n (item_grows i q) (items_grow is (written_in env here i q))
+  items_grow : (is : List Item) (q : Parts) → Adds Q (flat_map global_texts is) q (each (written_in env here) is q)
+  items_grow [] q = none Q q q refl
+  items_grow (i ∷ is) q = next Q (item_grows i q) (items_grow is (written_in env here i q))
 
-pub gathered_grows : (n : ℕ) (env : Environment) (tree : Tree) → Adds n (flat_map global_texts tree.items) nothing (gathered env tree)
-gathered_grows n env tree = items_grow n env (outside []) tree.items nothing
+pub gathered_grows : (Q : List ℕ → Bool) (env : Environment) (tree : Tree) → Adds Q (flat_map global_texts tree.items) nothing (gathered env tree)
+gathered_grows Q env tree = items_grow Q env (outside []) tree.items nothing
 
 globals_same : (env : Environment) (tree : Tree) (s : Starts) (k : ℕ) (vs : List Variable) → length (globals_from env tree s k vs) ≡ length vs
 unfolding globals_from

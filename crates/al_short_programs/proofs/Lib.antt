@@ -5,6 +5,6 @@ pub mod PartsAre
 pub mod InitialsAre
 pub mod GlobalsAre
 pub mod FunctionsAre
-pub mod GatheredAre
 pub mod DefinedAre
+pub mod GatheredAre
 pub mod ProgramsAre

@@ -22,44 +22,44 @@ use Rattle.al_body_parts.specs.declared.parts.WrittenText.{WrittenText}
 use Rattle.al_body_parts.specs.Parts.{nothing, with_text, with_type, with_label, with_base, with_local}
 use Rattle.al_body_parts.specs.Expressions.{Part, Way, each, optional, step, part, expr, behind_format, is_print}
 use Rattle.al_body_parts.specs.Statements.{stmt_step, stmt, parts, variable, variables, branch}
-use Rattle.al_tree_laws.specs.Texts.{Texts, joined, expression_step, texts_of, variable_texts, statement_step, statement_texts, is_short}
+use Rattle.al_tree_laws.specs.Texts.{Texts, joined, expression_step, texts_of, variable_texts, statement_step, statement_texts}
 use Rattle.al_tree_laws.specs.Texts as tree
 
--- a string constant that has at most so many bytes
-abbrev pub short_text : ℕ → WrittenText → Bool
-short_text n t = is_short n t.bytes
+-- a string constant of whose bytes the test holds
+abbrev pub bytes_hold : (List ℕ → Bool) → WrittenText → Bool
+bytes_hold Q t = Q t.bytes
 
 -- no string constants are added but these, and not all of them need be
-pub record Adds (n : ℕ) (ts : Texts) (q r : Parts) : Type 0 where
+pub record Adds (Q : List ℕ → Bool) (ts : Texts) (q r : Parts) : Type 0 where
   pub count : length r.texts ≤ length q.texts + length ts
-  pub short : list_all (short_text n) q.texts ≡ true → list_all (is_short n) ts ≡ true → list_all (short_text n) r.texts ≡ true
+  pub each_holds : list_all (bytes_hold Q) q.texts ≡ true → list_all Q ts ≡ true → list_all (bytes_hold Q) r.texts ≡ true
 
-module _ (n : ℕ) where
-  pub none : (q r : Parts) → r.texts ≡ q.texts → Adds n [] q r
-  none q r e = record { count = omega (arith, ap length e); short = λ h k. ap (list_all (short_text n)) e ∙ h }
+module _ (Q : List ℕ → Bool) where
+  pub none : (q r : Parts) → r.texts ≡ q.texts → Adds Q [] q r
+  none q r e = record { count = omega (arith, ap length e); each_holds = λ h k. ap (list_all (bytes_hold Q)) e ∙ h }
 
-  pub next : {ts rs : Texts} {q r w : Parts} → Adds n ts q r → Adds n rs r w → Adds n (ts ++ rs) q w
+  pub next : {ts rs : Texts} {q r w : Parts} → Adds Q ts q r → Adds Q rs r w → Adds Q (ts ++ rs) q w
   next {ts} {rs} {q} {r} {w} a b = record {
     count = omega (arith, a.count, b.count, length-append ts rs);
-    short = λ h k. let p = and_parts (list_all (is_short n) ts) (list_all (is_short n) rs) (sym (list_all-append (is_short n) ts rs) ∙ k) in b.short (a.short h p.0) p.1;
+    each_holds = λ h k. let p = and_parts (list_all Q ts) (list_all Q rs) (sym (list_all-append Q ts rs) ∙ k) in b.each_holds (a.each_holds h p.0) p.1;
   }
 
   -- behind what has none
-  pub behind : {ts : Texts} {q r w : Parts} → r.texts ≡ q.texts → Adds n ts r w → Adds n ts q w
+  pub behind : {ts : Texts} {q r w : Parts} → r.texts ≡ q.texts → Adds Q ts r w → Adds Q ts q w
   behind {ts} {q} {r} {w} e a = next (none q r e) a
 
   -- one of them is left out
-  pub wider : {rs : Texts} {q r : Parts} (ts : Texts) → Adds n rs q r → Adds n (ts ++ rs) q r
-  wider {rs} {q} {r} ts a = next {r = q} (record { count = omega arith; short = λ h k. h }) a
+  pub wider : {rs : Texts} {q r : Parts} (ts : Texts) → Adds Q rs q r → Adds Q (ts ++ rs) q r
+  wider {rs} {q} {r} ts a = next {r = q} (record { count = omega arith; each_holds = λ h k. h }) a
 
-  pub one : (at : Place) (bytes : List ℕ) (q : Parts) → Adds n (bytes ∷ []) q (with_text at bytes q)
+  pub one : (at : Place) (bytes : List ℕ) (q : Parts) → Adds Q (bytes ∷ []) q (with_text at bytes q)
   one at bytes q = record {
     count = omega (arith, length-append q.texts ((record { at = at; bytes = bytes }) ∷ []));
-    short = λ h k. list_all-append (short_text n) q.texts ((record { at = at; bytes = bytes }) ∷ []) ∙ ap₂ (λ a b. a && b) h k;
+    each_holds = λ h k. list_all-append (bytes_hold Q) q.texts ((record { at = at; bytes = bytes }) ∷ []) ∙ ap₂ (λ a b. a && b) h k;
   }
 
-  pub last : {ts : Texts} {q r w : Parts} → w.texts ≡ r.texts → Adds n ts q r → Adds n ts q w
-  last {ts} {q} {r} {w} e a = record { count = omega (arith, a.count, ap length e); short = λ h k. ap (list_all (short_text n)) e ∙ a.short h k }
+  pub last : {ts : Texts} {q r w : Parts} → w.texts ≡ r.texts → Adds Q ts q r → Adds Q ts q w
+  last {ts} {q} {r} {w} e a = record { count = omega (arith, a.count, ap length e); each_holds = λ h k. ap (list_all (bytes_hold Q)) e ∙ a.each_holds h k }
 
   module _ (env : Environment) (here : Here) where
     type_same : (at : Place) (t : TypeTree) (q : Parts) → (with_type env here at t q).texts ≡ q.texts
@@ -82,7 +82,7 @@ module _ (n : ℕ) where
     -- ---- expressions
 
     abbrev Grows : Expr → Type 0
-    Grows e = (inside : Bool) (q : Parts) → Adds n (texts_of e) q (expr env here e inside q)
+    Grows e = (inside : Bool) (q : Parts) → Adds Q (texts_of e) q (expr env here e inside q)
 
     abbrev Checked : Type 0
     Checked = (e : Expr) × Grows e
@@ -93,17 +93,17 @@ module _ (n : ℕ) where
     abbrev trees : List Checked → List Expr
     trees ys = map (λ y. y.0) ys
 
-    each_grows : (ys : List Checked) (inside : Bool) (q : Parts) → Adds n (joined (map texts_of (trees ys))) q (each (λ (p : Part). p.way) (map (part env here) (trees ys)) inside q)
+    each_grows : (ys : List Checked) (inside : Bool) (q : Parts) → Adds Q (joined (map texts_of (trees ys))) q (each (λ (p : Part). p.way) (map (part env here) (trees ys)) inside q)
     each_grows [] inside q = none q q refl
     each_grows (y ∷ ys) inside q = next (y.1 inside q) (each_grows ys inside (expr env here y.0 inside q))
 
     behind_grows : (is_print : Bool) (ys : List Checked) (inside : Bool) (q : Parts)
-        → Adds n (joined (map texts_of (trees ys))) q (each (λ (p : Part). p.way) (behind_format (λ (p : Part). p.is_text) is_print (map (part env here) (trees ys))) inside q)
+        → Adds Q (joined (map texts_of (trees ys))) q (each (λ (p : Part). p.way) (behind_format (λ (p : Part). p.is_text) is_print (map (part env here) (trees ys))) inside q)
     behind_grows false ys inside q = each_grows ys inside q
     behind_grows true [] inside q = none q q refl
     behind_grows true (y ∷ ys) inside q = on (part env here y.0).is_text
       where
-        on : (b : Bool) → Adds n (joined (map texts_of (trees (y ∷ ys)))) q (each (λ (p : Part). p.way) (if b then map (part env here) (trees ys) else map (part env here) (trees (y ∷ ys))) inside q)
+        on : (b : Bool) → Adds Q (joined (map texts_of (trees (y ∷ ys)))) q (each (λ (p : Part). p.way) (if b then map (part env here) (trees ys) else map (part env here) (trees (y ∷ ys))) inside q)
         on true = wider (texts_of y.0) (each_grows ys inside q)
         on false = each_grows (y ∷ ys) inside q
 
@@ -111,7 +111,7 @@ module _ (n : ℕ) where
     tree_of y = map-Expr Checked Expr (λ c. c.0) y
 
     step_grows : (y : Expr-F Checked) (inside : Bool) (q : Parts)
-        → Adds n (expression_step (map-Expr Expr Texts texts_of (tree_of y))) q ((step env here (map-Expr Expr Part (part env here) (tree_of y))).way inside q)
+        → Adds Q (expression_step (map-Expr Expr Texts texts_of (tree_of y))) q ((step env here (map-Expr Expr Part (part env here) (tree_of y))).way inside q)
     step_grows (Expr-F.Number at value) inside q = none q q refl
     step_grows (Expr-F.Char at value) inside q = none q q refl
     step_grows (Expr-F.Text at bytes) inside q = one at bytes q
@@ -136,34 +136,34 @@ module _ (n : ℕ) where
     unfolding texts_of part
     rolled_grows y inside q =
         let z = tree_of y in
-        subst (λ ts. Adds n ts q (expr env here (roll-Expr z) inside q)) (sym (fold-roll-Expr Texts expression_step z))
-        (subst (λ (p : Part). Adds n (expression_step (map-Expr Expr Texts texts_of z)) q (p.way inside q)) (sym (fold-roll-Expr Part (step env here) z)) (step_grows y inside q))
+        subst (λ ts. Adds Q ts q (expr env here (roll-Expr z) inside q)) (sym (fold-roll-Expr Texts expression_step z))
+        (subst (λ (p : Part). Adds Q (expression_step (map-Expr Expr Texts texts_of z)) q (p.way inside q)) (sym (fold-roll-Expr Part (step env here) z)) (step_grows y inside q))
 
-    pub expression_grows : (e : Expr) (inside : Bool) (q : Parts) → Adds n (texts_of e) q (expr env here e inside q)
+    pub expression_grows : (e : Expr) (inside : Bool) (q : Parts) → Adds Q (texts_of e) q (expr env here e inside q)
     expression_grows e = ind-Expr Grows (λ x y is. subst (λ z. Grows (roll-Expr z)) is (rolled_grows y)) e
 
     -- ---- statements
 
-    optional_grows : (o : Option Expr) (inside : Bool) (q : Parts) → Adds n (tree.optional texts_of o) q (optional (expr env here) o inside q)
+    optional_grows : (o : Option Expr) (inside : Bool) (q : Parts) → Adds Q (tree.optional texts_of o) q (optional (expr env here) o inside q)
     optional_grows None inside q = none q q refl
     optional_grows (Some e) inside q = expression_grows e inside q
 
-    all_grow : (es : List Expr) (inside : Bool) (q : Parts) → Adds n (flat_map texts_of es) q (each (expr env here) es inside q)
+    all_grow : (es : List Expr) (inside : Bool) (q : Parts) → Adds Q (flat_map texts_of es) q (each (expr env here) es inside q)
     all_grow [] inside q = none q q refl
     all_grow (e ∷ es) inside q = next (expression_grows e inside q) (all_grow es inside (expr env here e inside q))
 
-    variable_grows : (base : Option Ty) (v : Variable) (inside : Bool) (q : Parts) → Adds n (variable_texts v) q (variable env here base v inside q)
+    variable_grows : (base : Option Ty) (v : Variable) (inside : Bool) (q : Parts) → Adds Q (variable_texts v) q (variable env here base v inside q)
     variable_grows base v inside q = behind (local_same base inside v.dcl q) (optional_grows v.value inside (with_local env base inside v.dcl q))
 
-    each_variable : (base : Option Ty) (vs : List Variable) (inside : Bool) (q : Parts) → Adds n (flat_map variable_texts vs) q (each (variable env here base) vs inside q)
+    each_variable : (base : Option Ty) (vs : List Variable) (inside : Bool) (q : Parts) → Adds Q (flat_map variable_texts vs) q (each (variable env here base) vs inside q)
     each_variable base [] inside q = none q q refl
     each_variable base (v ∷ vs) inside q = next (variable_grows base v inside q) (each_variable base vs inside (variable env here base v inside q))
 
-    variables_grow : (base : TypeTree) (vs : List Variable) (inside : Bool) (q : Parts) → Adds n (flat_map variable_texts vs) q (variables env here base vs inside q)
+    variables_grow : (base : TypeTree) (vs : List Variable) (inside : Bool) (q : Parts) → Adds Q (flat_map variable_texts vs) q (variables env here base vs inside q)
     variables_grow base vs inside q = behind (base_same base q) (each_variable (written env here base) vs inside (with_base env here base q))
 
     abbrev Grow : Stmt → Type 0
-    Grow s = (inside : Bool) (q : Parts) → Adds n (statement_texts s) q (stmt env here s inside q)
+    Grow s = (inside : Bool) (q : Parts) → Adds Q (statement_texts s) q (stmt env here s inside q)
 
     abbrev Proved : Type 0
     Proved = (s : Stmt) × Grow s
@@ -171,11 +171,11 @@ module _ (n : ℕ) where
     abbrev statements : List Proved → List Stmt
     statements ys = map (λ y. y.0) ys
 
-    body_grows : (ys : List Proved) (inside : Bool) (q : Parts) → Adds n (joined (map statement_texts (statements ys))) q (each (λ (way : Way). way) (map (stmt env here) (statements ys)) inside q)
+    body_grows : (ys : List Proved) (inside : Bool) (q : Parts) → Adds Q (joined (map statement_texts (statements ys))) q (each (λ (way : Way). way) (map (stmt env here) (statements ys)) inside q)
     body_grows [] inside q = none q q refl
     body_grows (y ∷ ys) inside q = next (y.1 inside q) (body_grows ys inside (stmt env here y.0 inside q))
 
-    branches_grow : (ys : List Proved) (inside : Bool) (q : Parts) → Adds n (joined (map statement_texts (statements ys))) q (each (branch env here) (map (stmt env here) (statements ys)) inside q)
+    branches_grow : (ys : List Proved) (inside : Bool) (q : Parts) → Adds Q (joined (map statement_texts (statements ys))) q (each (branch env here) (map (stmt env here) (statements ys)) inside q)
     branches_grow [] inside q = none q q refl
     branches_grow (y ∷ ys) inside q = next (y.1 true q) (branches_grow ys inside (stmt env here y.0 true q))
 
@@ -184,7 +184,7 @@ module _ (n : ℕ) where
 
     abbrev StepGrows : Stmt-F Proved → Type 0
     StepGrows y = (inside : Bool) (q : Parts)
-        → Adds n (statement_step (map-Stmt Stmt Texts statement_texts (stmt_of y))) q (stmt_step env here (map-Stmt Stmt Way (stmt env here) (stmt_of y)) inside q)
+        → Adds Q (statement_step (map-Stmt Stmt Texts statement_texts (stmt_of y))) q (stmt_step env here (map-Stmt Stmt Way (stmt env here) (stmt_of y)) inside q)
 
     statement_grows : (y : Stmt-F Proved) → StepGrows y
     statement_grows (Stmt-F.Empty at) inside q = none q q refl
@@ -224,13 +224,13 @@ module _ (n : ℕ) where
     unfolding statement_texts stmt
     rolled_grow y inside q =
         let z = stmt_of y in
-        subst (λ ts. Adds n ts q (stmt env here (roll-Stmt z) inside q)) (sym (fold-roll-Stmt Texts statement_step z))
-        (subst (λ (way : Way). Adds n (statement_step (map-Stmt Stmt Texts statement_texts z)) q (way inside q)) (sym (fold-roll-Stmt Way (stmt_step env here) z)) (statement_grows y inside q))
+        subst (λ ts. Adds Q ts q (stmt env here (roll-Stmt z) inside q)) (sym (fold-roll-Stmt Texts statement_step z))
+        (subst (λ (way : Way). Adds Q (statement_step (map-Stmt Stmt Texts statement_texts z)) q (way inside q)) (sym (fold-roll-Stmt Way (stmt_step env here) z)) (statement_grows y inside q))
 
-    pub stmt_grows : (s : Stmt) (inside : Bool) (q : Parts) → Adds n (statement_texts s) q (stmt env here s inside q)
+    pub stmt_grows : (s : Stmt) (inside : Bool) (q : Parts) → Adds Q (statement_texts s) q (stmt env here s inside q)
     stmt_grows s = ind-Stmt Grow (λ x y is. subst (λ z. Grow (roll-Stmt z)) is (rolled_grow y)) s
 
     -- what a body writes
-    pub parts_grow : (s : Stmt) → Adds n (statement_texts s) nothing (parts env here s)
+    pub parts_grow : (s : Stmt) → Adds Q (statement_texts s) nothing (parts env here s)
     unfolding parts
     parts_grow s = stmt_grows s false nothing

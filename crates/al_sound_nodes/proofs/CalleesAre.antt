@@ -11,6 +11,7 @@ use Rattle.al_typed.specs.declared.expression.Passed.TheVariants as passed
 use Rattle.al_typed.specs.declared.expression.TExpr.{TExpr}
 use Rattle.al_typed.specs.declared.expression.TReceiver.{TReceiver}
 use Rattle.al_typed.specs.declared.expression.TReceiver.TheVariants as receiver
+use Rattle.al_typed.specs.Types.{IsAggregate}
 use Rattle.al_typed.specs.Typed.{place_type, type_of}
 use Rattle.al_typed.specs.WellTyped.{Gives, LeadsTo, Scope, is_sound, passes, rows}
 use Rattle.al_typed.proofs.ValueRules.{Gives-Place, Gives-Pointer, Gives-Value-Nothing, Gives-Value-Value}
@@ -121,18 +122,18 @@ declared_callee_is s env here t at (Some d) h = callee_as_is s env here t at d h
 
 -- where a function of a type is, and has a body
 method_is : (s : Scope) (env : Environment) (here : Here) → Tells s env here → (t : Ty) (name number : ℕ) (f : NamedFunction) → function_in env (Some t) name ≡ Some f
-    → f.signature.number ≡ Some number → (object : Ty) × LeadsTo (rows s) f.path t object × Calls s f.signature number (passes f.passed object)
+    → f.signature.number ≡ Some number → (object : Ty) × LeadsTo (rows s) f.path t object × Calls s f.signature number (passes f.passed object) × IsAggregate t
 method_is s env here tells t name number f h e = on (aggregate_of t) refl h
   where
-    on : (o : Option ℕ) → aggregate_of t ≡ o → option_and_then (λ n. function_named env n name) o ≡ Some f → (object : Ty) × LeadsTo (rows s) f.path t object × Calls s f.signature number (passes f.passed object)
+    on : (o : Option ℕ) → aggregate_of t ≡ o → option_and_then (λ n. function_named env n name) o ≡ Some f → (object : Ty) × LeadsTo (rows s) f.path t object × Calls s f.signature number (passes f.passed object) × IsAggregate t
     on None q h = absurd (cc)
     on (Some n) q h =
         let m = tells.methods n name number f h e in
-        (m.object, subst (λ u. LeadsTo (rows s) f.path u m.object) (sym (aggregate_of_is t n q)) m.leads, m.calls)
+        (m.object, subst (λ u. LeadsTo (rows s) f.path u m.object) (sym (aggregate_of_is t n q)) m.leads, m.calls, (n, aggregate_of_is t n q))
 
 -- what a receiver gives, once the function has a body
 abbrev GivesTo : Scope → Ty → NamedFunction → TReceiver → Type 0
-GivesTo s t f r = (object : Ty) → LeadsTo (rows s) f.path t object → Gives s r (passes f.passed object)
+GivesTo s t f r = IsAggregate t → (object : Ty) → LeadsTo (rows s) f.path t object → Gives s r (passes f.passed object)
 
 method_callee_is : (s : Scope) (env : Environment) (here : Here) → Tells s env here → (at : Place) (t : Ty) (name : ℕ) (f : NamedFunction) → function_in env (Some t) name ≡ Some f
     → (r : TReceiver) → GivesTo s t f r → IfGood (method_callee at f r) (IsCallee s)
@@ -142,27 +143,27 @@ method_callee_is s env here tells at t name f h r g =
     (λ q.
     let n = there f.signature.number q in
     let m = method_is s env here tells t name n.0 f h n.1 in
-    called_is s f.signature n.0 (Some r) (passes f.passed m.0) n.1 m.2 (g m.0 m.1))
+    called_is s f.signature n.0 (Some r) (passes f.passed m.0) n.1 m.2 (g m.3 m.0 m.1))
 
-value_gives : (s : Scope) (e : TExpr) (path : List ℕ) (how : Passed) (object : Ty) → IsTyped s e → rule_57_has_place how ≡ true → LeadsTo (rows s) path (type_of e) object
-    → Gives s (receiver.Value e path how) (passes how object)
+value_gives : (s : Scope) (e : TExpr) (path : List ℕ) (how : Passed) (object : Ty) → IsTyped s e → rule_57_has_place how ≡ true → IsAggregate (type_of e)
+    → LeadsTo (rows s) path (type_of e) object → Gives s (receiver.Value e path how) (passes how object)
 unfolding rule_57_has_place
-value_gives s e path passed.Address object u q l = not_true q
-value_gives s e path passed.Value object u q l = rw (Gives-Value-Value s e path (passes passed.Value object)) ((object, (u.value, (l, refl))))
-value_gives s e path passed.Nothing object u q l = rw (Gives-Value-Nothing s e path (passes passed.Nothing object)) ((object, (u.value, (l, refl))))
+value_gives s e path passed.Address object u q a l = not_true q
+value_gives s e path passed.Value object u q a l = rw (Gives-Value-Value s e path (passes passed.Value object)) ((object, (u.value, (a, (l, refl)))))
+value_gives s e path passed.Nothing object u q a l = rw (Gives-Value-Nothing s e path (passes passed.Nothing object)) ((object, (u.value, (a, (l, refl)))))
 
 value_receiver_is : (s : Scope) (here : Here) (at : Place) (e : TExpr) (g : NamedFunction) → IsTyped s e → IfGood (value_receiver here at e g) (GivesTo s (type_of e) g)
 unfolding value_receiver object
 value_receiver_is s here at e g u =
     after (λ a. (a ≡ e) × (rule_57_has_place g.passed ≡ true)) (GivesTo s (type_of e) g) (object here at e g) _
     (asked_thrice (λ a. (a ≡ e) × (rule_57_has_place g.passed ≡ true)) 10 57 58 at (rule_10_is_open here g.interns) (rule_57_has_place g.passed) (rule_58_is_object e) e (λ p q k. (refl, q)))
-    (λ a h. subst (λ d. GivesTo s (type_of e) g (value_object d g)) (sym h.0) (λ object l. value_gives s e g.path g.passed object u h.1 l))
+    (λ a h. subst (λ d. GivesTo s (type_of e) g (value_object d g)) (sym h.0) (λ a object l. value_gives s e g.path g.passed object u h.1 a l))
 
 dot_receiver_is : (s : Scope) (here : Here) (at : Place) (f : Found) (g : NamedFunction) → IsFound s f → IfGood (dot_receiver here at f g) (GivesTo s (found_type f) g)
 unfolding dot_receiver place_receiver operand_receiver
 dot_receiver_is s here at (found.Place p is_private) g h =
     asked (GivesTo s (place_type p) g) 10 at (rule_10_is_open here g.interns) (place_object p g)
-    (λ q object l. rw (Gives-Place s p g.path g.passed (passes g.passed object)) ((object, (h.place.place, (l, refl)))))
+    (λ q a object l. rw (Gives-Place s p g.path g.passed (passes g.passed object)) ((object, (h.place.place, (a, (l, refl))))))
 dot_receiver_is s here at (found.Value x) g h =
     after (λ e. e ≡ x.value) (GivesTo s (type_of x.value) g) (plain x) _ (plain_is x)
     (λ e q. subst (λ d. IfGood (value_receiver here at d g) (GivesTo s (type_of x.value) g)) (sym q) (value_receiver_is s here at x.value g h.typed))
@@ -172,7 +173,7 @@ pointer_receiver_is : (s : Scope) (here : Here) (at : Place) (e : TExpr) (g : Na
 unfolding pointer_receiver
 pointer_receiver_is s here at e g t h u =
     asked (GivesTo s t g) 10 at (rule_10_is_open here g.interns) (pointer_object e g)
-    (λ q object l. rw (Gives-Pointer s e g.path g.passed (passes g.passed object)) ((t, (object, (u.value, (pointer_is (type_of e) t h, (l, refl)))))))
+    (λ q a object l. rw (Gives-Pointer s e g.path g.passed (passes g.passed object)) ((t, (object, (u.value, (pointer_is (type_of e) t h, (l, refl)))))))
 
 arrow_receiver_is : (s : Scope) (here : Here) (at : Place) (x : Operand) (g : NamedFunction) (t : Ty) → pointed (type_of x.value) ≡ Some t → IsOperand s x
     → IfGood (arrow_receiver here at x g) (GivesTo s t g)

@@ -20,7 +20,7 @@ use Rattle.al_typed.specs.declared.expression.TExpr.{TExpr}
 use Rattle.al_typed.specs.declared.expression.TExpr.TheVariants as expr
 use Rattle.al_typed.specs.declared.expression.TPlace.{TPlace}
 use Rattle.al_typed.specs.declared.expression.TPlace.TheVariants as place
-use Rattle.al_typed.specs.Types.{is_array, is_complete, is_void, is_whole}
+use Rattle.al_typed.specs.Types.{IsAggregate, is_array, is_complete, is_void, is_whole}
 use Rattle.al_typed.specs.Typed.{place_type, type_of}
 use Rattle.al_typed.specs.WellTyped.{HasAddress, LeadsTo, Scope, are_sound, is_sound, is_stored, rows}
 use Rattle.al_typed.proofs.ValueRules.{IsPlace-Member, IsPlace-PointedMember, IsValue-Constant, IsValue-Function, IsValue-MemberOf}
@@ -246,16 +246,16 @@ aggregate_of_is t n h = sym (roll-out-Ty t) ∙ on (out-Ty t) h
     on (Ty-F.Aggregate m) h = ty.rolls-Aggregate m ∙ ap ty.Aggregate (some_is h)
     on _ h = absurd (cc)
 
--- a member that a type has
+-- a member that a type has, which is an aggregate
 member_is : (s : Scope) (env : Environment) (here : Here) → Tells s env here → (t : Ty) (name : ℕ) (m : NamedMember) → member_in env (Some t) name ≡ Some m
-    → LeadsTo (rows s) m.path t m.ty × (is_stored (rows s) m.ty ≡ true)
+    → LeadsTo (rows s) m.path t m.ty × (is_stored (rows s) m.ty ≡ true) × IsAggregate t
 member_is s env here tells t name m h = on (aggregate_of t) refl h
   where
-    on : (o : Option ℕ) → aggregate_of t ≡ o → option_and_then (λ n. member_named env n name) o ≡ Some m → LeadsTo (rows s) m.path t m.ty × (is_stored (rows s) m.ty ≡ true)
+    on : (o : Option ℕ) → aggregate_of t ≡ o → option_and_then (λ n. member_named env n name) o ≡ Some m → LeadsTo (rows s) m.path t m.ty × (is_stored (rows s) m.ty ≡ true) × IsAggregate t
     on None e h = absurd (cc)
     on (Some n) e h =
         let x = tells.members n name m h in
-        (subst (λ u. LeadsTo (rows s) m.path u m.ty) (sym (aggregate_of_is t n e)) x.leads, x.stored)
+        (subst (λ u. LeadsTo (rows s) m.path u m.ty) (sym (aggregate_of_is t n e)) x.leads, x.stored, (n, aggregate_of_is t n e))
 
 member_address : (s : Scope) (t : Ty) (p : TPlace) (path : List ℕ) → HasAddress s (place.Member t p path)
 member_address s t p path = tt
@@ -280,7 +280,7 @@ place_dot_is s env here t at name p h = on (member_in env (Some (place_type p)) 
         let x = member_is s env here t (place_type p) name m e in
         asked (IsFound s) 10 at (rule_10_is_open here m.interns) (place_of (place_member p m))
         (λ q. open_place s (place_member p m)
-        (record { place = rw (IsPlace-Member s m.ty p m.path) ((h.place, x.0)); sound = (stored_is (rows s) m.ty x.1).0 })
+        (record { place = rw (IsPlace-Member s m.ty p m.path) ((h.place, (x.2, x.0))); sound = (stored_is (rows s) m.ty x.1).0 })
         (member_address s m.ty p m.path))
 
 value_dot_is : (s : Scope) (env : Environment) (here : Here) → Tells s env here → (at : Place) (name : ℕ) (e : TExpr) → IsTyped s e → IfGood (dot_value env here at name e) (IsFound s)

@@ -1,27 +1,22 @@
 -- Values of initializers are well typed, by what is known of expressions.
-use Rattle.std.proofs.Common.{◌≡◌, ℕ, ◌<◌, Bool, true, false, List, [], ◌∷◌, Option, Some, None, cond, sym, subst}
-use Rattle.std.specs.Prelude.{All, Contains, find, option_map, slice_get}
-use Rattle.std.proofs.lemmas.List.Elements.{All-head, All-tail, Contains-append_right}
+use Rattle.std.proofs.Common.{◌≡◌, ℕ, ◌<◌, Bool, true, false, List, [], ◌∷◌, Option, Some, None, cond, subst}
+use Rattle.std.specs.Prelude.{All, find, option_map, slice_get}
+use Rattle.std.proofs.lemmas.List.Elements.{All-head, All-tail}
 use Rattle.al_base.specs.declared.place.Place.{Place}
 use Rattle.al_rules.specs.Outcome.{same_place}
 use Rattle.al_scope.specs.Firsts.{declaration_at}
 use Rattle.al_scope.specs.declared.declaration.Declaration.{Declaration}
 use Rattle.al_scope.specs.declared.declaration.Declaration.TheVariants as declaration
 use Rattle.al_typed.specs.declared.program.Aggregate.{Aggregate}
-use Rattle.al_typed.specs.declared.ty.Ty.{Ty}
-use Rattle.al_typed.specs.declared.expression.TPlace.TheVariants as place
-use Rattle.al_typed.specs.declared.expression.TExpr.TheBlock.{hidden-the_row-TPlace-0}
-use denote.Hole.Carrier.{hidden}
-use Rattle.al_typed.specs.WellTyped.{HasAddress}
 use Rattle.al_environment.specs.declared.environment.Here.{Here}
 use Rattle.al_environment.specs.declared.environment.Round.{Round}
 use Rattle.al_environment.specs.declared.numbered.Numbered.{Numbered}
 use Rattle.al_environment.specs.Firsts.{number_at}
-use Rattle.al_type_nodes.specs.declared.found.Found.{Found}
-use Rattle.al_sound_nodes.specs.Nodes.{IsReached, IsShared}
-use Rattle.al_sound_expressions.specs.Expressions.{Every, ExpressionsAreSound, IsSoundWritten}
+use Rattle.al_sound_nodes.specs.Nodes.{IsReached}
+use Rattle.al_sound_expressions.specs.Expressions.{ExpressionsAreSound, IsSoundWritten}
 use Rattle.al_sound_statements.specs.Bodies.{expr_types}
-use Rattle.al_sound_statements.proofs.FitExpressions.{AreThere, expression_fits, first_of}
+use Rattle.al_sound_statements.proofs.FitExpressions.{AreThere, anywhere, expression_fits}
+use Rattle.al_sound_statements.proofs.FitStatements.{every_of}
 use Rattle.al_sound_programs.specs.Functions.{ValuesAreTyped, among_any}
 
 -- ---- numbers
@@ -63,25 +58,14 @@ module _ (rows : List Aggregate) (strings functions : ℕ) where
   is_reached here h (Some declaration.Print) = tt
   is_reached here h (Some declaration.Terminate) = tt
 
-  local_open : (t : Ty) (n : ℕ) → HasAddress (among_any rows strings functions) (place.Local t n)
-  unfolding hidden-the_row-TPlace-0 hidden
-  local_open t n = tt
-
-  is_shared : (f : Found) → IsShared (among_any rows strings functions) f
-  is_shared f p is_private q l = subst (HasAddress (among_any rows strings functions)) (sym l.2) (local_open l.0 l.1)
-
-every_of : {A : Type 0} (P : A → Type 0) (xs : List A) → ((x : A) → Contains xs x → P x) → Every P xs
-every_of P [] h = tt
-every_of P (x ∷ xs) h = (h x (first_of x xs), every_of P xs (λ a c. h a (Contains-append_right (x ∷ []) xs a c)))
-
 pub values_typed : ExpressionsAreSound → ValuesAreTyped
 values_typed law env strings functions here tells texts around iterators e sound =
     let s = among_any env.aggregates strings functions in
     let there : AreThere s env here = record {
       texts = λ at n q. below strings here.texts at n texts q;
-      reached = λ at. is_reached env.aggregates strings functions here around (declaration_at env.scopes.names at);
-      shared = is_shared env.aggregates strings functions;
       iterators = λ at n q. none_at here.iterators at n 0 iterators q;
     } in
-    let fit = expression_fits s env here there e (every_of (IsSoundWritten s env here) (expr_types e) sound) in
+    let names = anywhere s env here (λ at. is_reached env.aggregates strings functions here around (declaration_at env.scopes.names at)) (λ at n v p q. tt) e
+    (every_of (IsSoundWritten s env here) (expr_types e) sound) in
+    let fit = expression_fits s env here there e names in
     law.value_of s env here tells fit.trees fit.fit e fit.among

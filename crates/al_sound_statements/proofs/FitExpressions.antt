@@ -1,9 +1,8 @@
--- Expressions are fit where the types are sound that are written in them.
+-- Expressions are fit where the types are sound that are written in them, and their names reach what they stand for.
 use Rattle.std.proofs.Common.{◌≡◌, ℕ, zero, suc, ◌<◌, List, [], ◌∷◌, ◌++◌, map, Some, refl, sym, subst, ◌⊎◌, inl, inr, arith}
 use Rattle.std.specs.Prelude.{Contains}
 use Rattle.std.proofs.lemmas.List.Elements.{Contains-append_cases, Contains-append_left, Contains-append_right}
 use Rattle.al_base.specs.declared.place.Place.{Place}
-use Rattle.al_scope.specs.Firsts.{declaration_at}
 use Rattle.al_tree.specs.declared.expression.UnaryOp.{UnaryOp}
 use Rattle.al_tree.specs.declared.expression.UnaryOp.TheVariants as prefix
 use Rattle.al_tree.specs.declared.expression.Expr.{Expr, fold-roll-Expr, map-Expr, out-Expr, roll-Expr}
@@ -11,17 +10,17 @@ use Rattle.al_tree.specs.declared.expression.Expr.TheViews.{out-roll-Expr}
 use Rattle.al_tree.specs.declared.expression.Expr.TheFolds.{ind-Expr}
 use Rattle.al_tree.specs.declared.expression.Expr.TheOpen.{Expr-F}
 use Rattle.al_tree.specs.declared.type_tree.TypeTree.{TypeTree}
+use Rattle.al_tree_walks.specs.Expressions.{Addressed, addressed, addressed_places, addressed_step, all_places, behind, each_addressed, name_places, names_step}
 use Rattle.al_typed.specs.WellTyped.{Scope, strings_of}
 use Rattle.al_environment.specs.declared.environment.Environment.{Environment}
 use Rattle.al_environment.specs.declared.environment.Here.{Here}
 use Rattle.al_environment.specs.Firsts.{number_at}
-use Rattle.al_type_nodes.specs.declared.found.Found.{Found}
 use Rattle.al_type_expr.specs.Nodes.{Node, node}
-use Rattle.al_sound_nodes.specs.Nodes.{IsReached, IsShared}
 use Rattle.al_sound_expressions.specs.Expressions.{AreFit, EachPart, Every, IsFit, IsSoundWritten}
 use Rattle.al_sound_statements.specs.Statements.{IsFitExpr}
 use Rattle.al_sound_statements.specs.Bodies.{all_types, expr_types, expr_types_step}
-use Rattle.al_sound_operators.proofs.Outcomes.{where_good}
+use Rattle.al_sound_statements.specs.Named.{IsReachedAt, IsSharedAt}
+use Rattle.al_sound_statements.proofs.AddressedNames.{address_shared}
 use Rattle.al_sound_statements.proofs.StatementLists.{every_also, every_split}
 
 -- ---- lists of trees
@@ -134,44 +133,74 @@ module _ (s : Scope) (env : Environment) (here : Here) where
   parts_fit (Expr-F.Assign at op a b) h = two_parts a b h.0 h.1
   parts_fit (Expr-F.Sequence at parts) h = gathered parts h
 
-  -- ---- what is asked of nodes, but of types
+  -- ---- what is asked of nodes
 
+  -- of strings and iterators
   pub record AreThere : Type 0 where
     pub texts : (at : Place) (n : ℕ) → number_at here.texts at ≡ Some n → n < strings_of s.names
-    pub reached : (at : Place) → IsReached s here (declaration_at env.scopes.names at)
-    pub shared : (f : Found) → IsShared s f
     pub iterators : (at : Place) (n : ℕ) → number_at here.iterators at ≡ Some n → n < s.iterators
 
   abbrev Sound : TypeTree → Type 0
   Sound = IsSoundWritten s env here
 
+  abbrev Reached : Place → Type 0
+  Reached = IsReachedAt s env here
+
+  abbrev Shared : Place → Type 0
+  Shared = IsSharedAt s env here
+
+  -- of written types, of names, and of names behind `&`
+  abbrev pub Has : List TypeTree → List Place → List Place → Type 0
+  Has ts ns ps = Every Sound ts × (Every Reached ns × Every Shared ps)
+
+  split : (ts us : List TypeTree) (ns ms ps qs : List Place) → Has (ts ++ us) (ns ++ ms) (ps ++ qs) → Has ts ns ps × Has us ms qs
+  split ts us ns ms ps qs h =
+      let t = every_split Sound ts us h.0 in
+      let n = every_split Reached ns ms h.1.0 in
+      let p = every_split Shared ps qs h.1.1 in
+      ((t.0, (n.0, p.0)), (t.1, (n.1, p.1)))
+
+  -- of an expression
+  abbrev pub HasAll : Expr → Type 0
+  HasAll e = Has (expr_types e) (name_places e) (addressed_places e)
+
+  -- of all names at once
+  pub anywhere : ((at : Place) → Reached at) → ((at : Place) → Shared at) → (e : Expr) → Every Sound (expr_types e) → HasAll e
+  anywhere f g e h = (h, (each Reached f (name_places e), each Shared g (addressed_places e)))
+    where
+      each : (P : Place → Type 0) → ((at : Place) → P at) → (ats : List Place) → Every P ats
+      each P f [] = tt
+      each P f (at ∷ ats) = (f at, each P f ats)
+
   module _ (there : AreThere) where
-    unary_fit : (at : Place) (op : UnaryOp) (a : Expr) → IsFitNode (Expr-F.Unary at op a)
-    unary_fit at prefix.Plus a = tt
-    unary_fit at prefix.Minus a = tt
-    unary_fit at prefix.Not a = tt
-    unary_fit at prefix.Complement a = tt
-    unary_fit at prefix.Indirect a = tt
-    unary_fit at prefix.Address a = where_good (IsShared s) (node env here a).found (λ f q. there.shared f)
-    unary_fit at prefix.Increment a = tt
-    unary_fit at prefix.Decrement a = tt
-    unary_fit at prefix.Receive a = tt
-    unary_fit at prefix.CanReceive a = tt
-    unary_fit at prefix.Zerox a = tt
+    unary_fit : (at : Place) (op : UnaryOp) (a : Expr) → Every Shared (behind op (addressed a).name) → IsFitNode (Expr-F.Unary at op a)
+    unary_fit at prefix.Plus a h = tt
+    unary_fit at prefix.Minus a h = tt
+    unary_fit at prefix.Not a h = tt
+    unary_fit at prefix.Complement a h = tt
+    unary_fit at prefix.Indirect a h = tt
+    unary_fit at prefix.Address a h = address_shared s env here a h
+    unary_fit at prefix.Increment a h = tt
+    unary_fit at prefix.Decrement a h = tt
+    unary_fit at prefix.Receive a h = tt
+    unary_fit at prefix.CanReceive a h = tt
+    unary_fit at prefix.Zerox a h = tt
 
-    abbrev types_of : Expr-F Expr → List TypeTree
-    types_of z = expr_types_step (map-Expr Expr (List TypeTree) expr_types z)
+    abbrev HasNode : Expr-F Expr → Type 0
+    HasNode z =
+        Has (expr_types_step (map-Expr Expr (List TypeTree) expr_types z)) (names_step (map-Expr Expr (List Place) name_places z))
+        (addressed_step (map-Expr Expr Addressed addressed z)).places
 
-    node_fit : (z : Expr-F Expr) → Every Sound (types_of z) → IsFitNode z
+    node_fit : (z : Expr-F Expr) → HasNode z → IsFitNode z
     node_fit (Expr-F.Number at value) h = tt
     node_fit (Expr-F.Char at value) h = tt
     node_fit (Expr-F.Text at bytes) h = there.texts at
     node_fit (Expr-F.Nil at) h = tt
-    node_fit (Expr-F.Name at name) h = there.reached at
+    node_fit (Expr-F.Name at name) h = h.1.0.0
     node_fit (Expr-F.Tuple at parts) h = tt
-    node_fit (Expr-F.Unary at op a) h = unary_fit at op a
-    node_fit (Expr-F.Cast at to a) h = h.0
-    node_fit (Expr-F.SizeofType at of) h = h.0
+    node_fit (Expr-F.Unary at op a) h = unary_fit at op a (every_split Shared (behind op (addressed a).name) (addressed_places a) h.1.1).0
+    node_fit (Expr-F.Cast at to a) h = h.0.0
+    node_fit (Expr-F.SizeofType at of) h = h.0.0
     node_fit (Expr-F.SizeofValue at a) h = tt
     node_fit (Expr-F.Index at a b) h = tt
     node_fit (Expr-F.Member at a how name) h = tt
@@ -185,36 +214,47 @@ module _ (s : Scope) (env : Environment) (here : Here) where
     -- ---- trees
 
     abbrev Holds : Expr → Type 0
-    Holds e = Every Sound (expr_types e) → Fit e
+    Holds e = HasAll e → Fit e
 
     abbrev Checked : Type 0
     Checked = (e : Expr) × Holds e
 
+    abbrev trees_of : List Checked → List Expr
+    trees_of ys = map (λ y. y.0) ys
+
     abbrev tree_of : Expr-F Checked → Expr-F Expr
     tree_of y = map-Expr Checked Expr (λ c. c.0) y
 
-    every_fit : (ys : List Checked) → Every Sound (all_types (map expr_types (map (λ y. y.0) ys))) → Every Fit (map (λ y. y.0) ys)
+    abbrev HasEach : List Expr → Type 0
+    HasEach es = Has (all_types (map expr_types es)) (all_places (map name_places es)) (each_addressed (map addressed es))
+
+    every_fit : (ys : List Checked) → HasEach (trees_of ys) → Every Fit (trees_of ys)
     every_fit [] h = tt
-    every_fit (y ∷ ys) h = let b = every_split Sound (expr_types y.0) (all_types (map expr_types (map (λ y. y.0) ys))) h in (y.1 b.0, every_fit ys b.1)
+    every_fit (y ∷ ys) h =
+        let es = trees_of ys in
+        let b = split (expr_types y.0) (all_types (map expr_types es)) (name_places y.0) (all_places (map name_places es)) (addressed_places y.0) (each_addressed (map addressed es)) h in
+        (y.1 b.0, every_fit ys b.1)
 
-    both_parts : (a b : Checked) → Every Sound (expr_types a.0 ++ expr_types b.0) → Fit a.0 × Fit b.0
-    both_parts a b h = let p = every_split Sound (expr_types a.0) (expr_types b.0) h in (a.1 p.0, b.1 p.1)
+    both_parts : (a b : Checked) → Has (expr_types a.0 ++ expr_types b.0) (name_places a.0 ++ name_places b.0) (addressed_places a.0 ++ addressed_places b.0) → Fit a.0 × Fit b.0
+    both_parts a b h = let p = split (expr_types a.0) (expr_types b.0) (name_places a.0) (name_places b.0) (addressed_places a.0) (addressed_places b.0) h in (a.1 p.0, b.1 p.1)
 
-    each_fit : (y : Expr-F Checked) → Every Sound (types_of (tree_of y)) → EachPart Fit (tree_of y)
+    each_fit : (y : Expr-F Checked) → HasNode (tree_of y) → EachPart Fit (tree_of y)
     each_fit (Expr-F.Number at value) h = tt
     each_fit (Expr-F.Char at value) h = tt
     each_fit (Expr-F.Text at bytes) h = tt
     each_fit (Expr-F.Nil at) h = tt
     each_fit (Expr-F.Name at name) h = tt
     each_fit (Expr-F.Tuple at parts) h = every_fit parts h
-    each_fit (Expr-F.Unary at op a) h = a.1 h
-    each_fit (Expr-F.Cast at to a) h = a.1 h.1
+    each_fit (Expr-F.Unary at op a) h = a.1 (h.0, (h.1.0, (every_split Shared (behind op (addressed a.0).name) (addressed_places a.0) h.1.1).1))
+    each_fit (Expr-F.Cast at to a) h = a.1 (h.0.1, h.1)
     each_fit (Expr-F.SizeofType at of) h = tt
     each_fit (Expr-F.SizeofValue at a) h = a.1 h
     each_fit (Expr-F.Index at a b) h = both_parts a b h
     each_fit (Expr-F.Member at a how name) h = a.1 h
     each_fit (Expr-F.Call at f xs) h =
-        let b = every_split Sound (expr_types f.0) (all_types (map expr_types (map (λ y. y.0) xs))) h in (f.1 b.0, every_fit xs b.1)
+        let es = trees_of xs in
+        let b = split (expr_types f.0) (all_types (map expr_types es)) (name_places f.0) (all_places (map name_places es)) (addressed_places f.0) (each_addressed (map addressed es)) h in
+        (f.1 b.0, every_fit xs b.1)
     each_fit (Expr-F.Postfix at op a) h = a.1 h
     each_fit (Expr-F.Binary at op a b) h = both_parts a b h
     each_fit (Expr-F.Iterator at a b) h = both_parts a b h
@@ -222,18 +262,24 @@ module _ (s : Scope) (env : Environment) (here : Here) where
     each_fit (Expr-F.Sequence at parts) h = every_fit parts h
 
     by_parts : (y : Expr-F Checked) → Holds (roll-Expr (tree_of y))
-    unfolding expr_types
+    unfolding expr_types name_places addressed
     by_parts y h =
         let z = tree_of y in
         let e = roll-Expr z in
         let same : out-Expr e ≡ z = out-roll-Expr z in
-        let sound = subst (Every Sound) (fold-roll-Expr (List TypeTree) expr_types_step z) h in
-        let g = parts_fit z (each_fit y sound) in
+        let has : HasNode z = (
+          subst (Every Sound) (fold-roll-Expr (List TypeTree) expr_types_step z) h.0,
+          (
+            subst (Every Reached) (fold-roll-Expr (List Place) names_step z) h.1.0,
+            subst (λ (a : Addressed). Every Shared a.places) (fold-roll-Expr Addressed addressed_step z) h.1.1,
+          ),
+        ) in
+        let g = parts_fit z (each_fit y has) in
         record {
           trees = e ∷ g.0;
-          fit = one_more_fit e g.0 (subst (EachPart (Contains g.0)) (sym same) g.1.1) (subst IsFitNode (sym same) (node_fit z sound)) g.1.0;
+          fit = one_more_fit e g.0 (subst (EachPart (Contains g.0)) (sym same) g.1.1) (subst IsFitNode (sym same) (node_fit z has)) g.1.0;
           among = first_of e g.0;
         }
 
-    pub expression_fits : (e : Expr) → Every Sound (expr_types e) → Fit e
+    pub expression_fits : (e : Expr) → HasAll e → Fit e
     expression_fits = ind-Expr Holds (λ x y is. subst (λ z. Holds (roll-Expr z)) is (by_parts y))

@@ -7,7 +7,9 @@ pub mod IteratorsIn
 pub mod StatementParts
 pub mod StatementTrees
 pub mod WrittenTypes
+pub mod AddressedNames
 pub mod FitExpressions
 pub mod FitStatements
+pub mod AnyNames
 pub mod TypesGathered
 pub mod StatementsAre

@@ -1,5 +1,5 @@
 -- Statements of expressions alone.
-use Rattle.std.proofs.Common.{◌≡◌, ℕ, true, false, List, [], ◌∷◌, length, Option, Some, None, refl, sym, ap, ◌∙◌, subst, inl, inr}
+use Rattle.std.proofs.Common.{◌≡◌, ℕ, Bool, true, false, List, [], ◌∷◌, length, Option, Some, None, refl, sym, ap, ◌∙◌, subst, inl, inr}
 use Rattle.std.specs.Prelude.{◌⊎◌, not, is_some}
 use Rattle.std.specs.List.{flat_map}
 use Rattle.al_base.specs.declared.place.Place.{Place}
@@ -11,15 +11,17 @@ use Rattle.al_scope.specs.declared.declaration.Declaration.TheVariants as declar
 use Rattle.al_scope.specs.Expressions.{place as expr_place}
 use Rattle.al_scope.specs.Firsts.{declaration_at}
 use Rattle.al_typed.specs.declared.ty.Ty.{Ty}
+use Rattle.al_typed.specs.declared.ty.Ty.TheViews.{out-Ty}
 use Rattle.al_typed.specs.declared.ty.Ty.TheVariants as ty
 use Rattle.al_typed.specs.declared.program.Aggregate.{Aggregate as AggregateRow}
 use Rattle.al_typed.specs.declared.expression.TExpr.{TExpr}
 use Rattle.al_typed.specs.declared.expression.TPlace.{TPlace}
 use Rattle.al_typed.specs.declared.expression.TPlace.TheVariants as place
 use Rattle.al_typed.specs.declared.statement.TStmt.TheVariants as stmt
-use Rattle.al_typed.specs.Types.{is_array, points_to_complete}
+use denote.Hole.Carrier.{out}
+use Rattle.al_typed.specs.Types.{is_array, is_complete, is_void, is_whole, points_to_complete}
 use Rattle.al_typed.specs.Typed.{callee_of, place_type, type_of}
-use Rattle.al_typed.specs.WellTyped.{Allocates, GivesBack, IsCall, IsChannel, IsCondition, IsInitializer, IsLocalOfType, IsReturned, IsStatement, Nest, Returns, Scope, is_sound, rows}
+use Rattle.al_typed.specs.WellTyped.{Allocates, GivesBack, IsCall, IsChannel, IsCondition, IsHandedOn, IsInitializer, IsLocalOfType, IsReturned, IsStatement, Nest, Returns, Scope, is_sound, rows}
 use Rattle.al_typed.proofs.StatementRules as rules
 use Rattle.al_convert.specs.Kinds.{is_channel}
 use Rattle.al_convert.specs.Same.{same}
@@ -47,7 +49,7 @@ use Rattle.al_sound_expressions.specs.Expressions.{Every, IsNode}
 use Rattle.al_sound_statements.specs.Statements.{GoesOn, IfThere, IsFitExpr}
 use Rattle.al_sound_operators.proofs.TypeForms.{a_channel, a_pointer, there, void_is}
 use Rattle.al_sound_operators.proofs.SameTypes.{and_both}
-use Rattle.al_sound_operators.proofs.OperatorKinds.{either, negated}
+use Rattle.al_sound_operators.proofs.OperatorKinds.{either, negated, not_true}
 use Rattle.al_sound_operators.proofs.Outcomes.{after, also, asked, if_good, where_good}
 use Rattle.al_sound_statements.proofs.StatementLists.{AreMany, each_is, every_all, every_append, if_either, judged, of_each_is, optional_is}
 use Rattle.al_sound_statements.proofs.Known.{Laws, local_place}
@@ -81,6 +83,18 @@ goes_on t e h = let b = and_both (is_some (callee_of e)) (same false (type_of e)
 is_nothing : (t : Ty) → rule_47_is_void t ≡ true → t ≡ ty.Void
 unfolding rule_47_is_void
 is_nothing t h = void_is t h
+
+not_whole : (rs : List AggregateRow) → is_whole rs ty.Void ≡ true → ⊥
+unfolding is_complete is_array out-Ty out
+not_whole rs h = not_true h
+
+-- a value is no void
+no_void : (rs : List AggregateRow) (t : Ty) → is_whole rs t ≡ true → is_void t ≡ false
+no_void rs t h = by (is_void t) refl
+  where
+    by : (b : Bool) → is_void t ≡ b → b ≡ false
+    by true q = absurd (not_whole rs (subst (λ u. is_whole rs u ≡ true) (void_is t q) h))
+    by false q = refl
 
 initializes : (x : Operand) (t : Ty) → rule_23_initializes x t ≡ true → (is_array t ≡ false) × (rule_33_converts x t ≡ true)
 unfolding rule_23_initializes
@@ -122,30 +136,33 @@ module _ (law : Laws) (s : Scope) where
   -- ---- returns
 
   module _ (t : Ty) (is : IsReturned s.names t) (sound : is_sound (rows s) t ≡ true) where
+    of_value : (e : TExpr) → IsOf s t e → Returns s (Some e)
+    of_value e q = (q.usable.value, (no_void (rows s) (type_of e) q.usable.whole, subst (IsReturned s.names) (sym q.is) is))
+
     returned_is : (at : Place) (x : Option Operand) → IfThere (IsOperand s) x → IfGood (returned at t x) (Returns s)
     unfolding returned returned_nothing returned_value
     returned_is at None h = asked (Returns s) 47 at (rule_47_is_void t) None (λ q. subst (IsReturned s.names) (is_nothing t q) is)
     returned_is at (Some x) o =
-        after (IsOf s t) (Returns s) (taken 47 at t x) (λ e. Good (Some e)) (law.operands.taken s 47 at t x o sound) (λ e q. (q.usable.value, subst (IsReturned s.names) (sym q.is) is))
+        after (IsOf s t) (Returns s) (taken 47 at t x) (λ e. Good (Some e)) (law.operands.taken s 47 at t x o sound) (λ e q. of_value e q)
 
     became_value_is : (n : Nest) (line : ℕ) (at : Place) (x : Operand) → IsOperand s x → IfGood (became_value line at t x) (IsStatement s n)
     unfolding became_value
     became_value_is n line at x o =
         after (IsOf s t) (IsStatement s n) (taken 48 at t x) (λ e. Good (stmt.Return line (Some e))) (law.operands.taken s 48 at t x o sound)
-        (λ e q. rw (rules.IsStatement-Return s n line (Some e)) ((q.usable.value, subst (IsReturned s.names) (sym q.is) is)))
+        (λ e q. rw (rules.IsStatement-Return s n line (Some e)) (of_value e q))
 
     became_found_is : (n : Nest) (line : ℕ) (at value_at : Place) (f : Found) → IsFound s f → IfGood (became_found (rows s) line at t value_at f) (IsStatement s n)
     became_found_is n line at value_at f h =
         after (IsOperand s) (IsStatement s n) (operand (rows s) value_at f) (became_value line at t) (law.nodes.operand s value_at f h) (λ x o. became_value_is n line at x o)
 
-    became_call_is : (n : Nest) (line : ℕ) (at : Place) (e : TExpr) → IsTyped s e → ((number : ℕ) → callee_of e ≡ Some number → same false (type_of e) t ≡ true → IsReturned s.names (type_of e))
+    became_call_is : (n : Nest) (line : ℕ) (at : Place) (e : TExpr) → IsTyped s e → ((number : ℕ) → callee_of e ≡ Some number → same false (type_of e) t ≡ true → IsHandedOn s.names (type_of e))
         → IfGood (became_call line at t e) (IsStatement s n)
     unfolding became_call
     became_call_is n line at e h goes =
         asked (IsStatement s n) 48 at (rule_48_goes_on t e) (stmt.Become line e)
         (λ q. let r = goes_on t e q in rw (rules.IsStatement-Become s n line e) (((h.value, r.0), goes r.0.0 r.0.1 r.1)))
 
-    became_is : (n : Nest) (line : ℕ) (at value_at : Place) (f : Found) → IsFound s f → ((x : Operand) (number : ℕ) → f ≡ found_as.Value x → callee_of x.value ≡ Some number → same false (type_of x.value) t ≡ true → IsReturned s.names (type_of x.value))
+    became_is : (n : Nest) (line : ℕ) (at value_at : Place) (f : Found) → IsFound s f → ((x : Operand) (number : ℕ) → f ≡ found_as.Value x → callee_of x.value ≡ Some number → same false (type_of x.value) t ≡ true → IsHandedOn s.names (type_of x.value))
         → IfGood (became (rows s) line at t value_at f) (IsStatement s n)
     unfolding became became_operand
     became_is n line at value_at (found_as.Place p is_private) h goes = became_found_is n line at value_at (found_as.Place p is_private) h

@@ -4,6 +4,7 @@ use Rattle.al_tree.specs.declared.statement.Stmt.{Stmt, fold-roll-Stmt, map-Stmt
 use Rattle.al_tree.specs.declared.statement.Stmt.TheViews.{out-roll-Stmt}
 use Rattle.al_tree.specs.declared.statement.Stmt.TheFolds.{ind-Stmt}
 use Rattle.al_tree.specs.declared.statement.Stmt.TheOpen.{Stmt-F}
+use Rattle.al_tree_walks.specs.Statements.{Standing}
 use Rattle.al_typed.specs.WellTyped.{Scope}
 use Rattle.al_environment.specs.declared.environment.Environment.{Environment}
 use Rattle.al_environment.specs.declared.environment.Here.{Here}
@@ -11,7 +12,7 @@ use Rattle.al_type_stmt.specs.declared.within.Within.{Within}
 use Rattle.al_type_stmt.specs.declared.within.Choice.TheVariants as choice
 use Rattle.al_type_stmt.specs.Statements.{Part, part, part_step}
 use Rattle.al_sound_expressions.specs.Expressions.{Every}
-use Rattle.al_sound_statements.specs.Statements.{AreFitStatements, EachInside, IsFitAt, IsPart, Standing, StandsAt, StatementsAreSound}
+use Rattle.al_sound_statements.specs.Statements.{AreFitStatements, EachInside, IsFitAt, IsPart, StandsAt, StatementsAreSound}
 use Rattle.al_sound_statements.proofs.Known.{Laws}
 use Rattle.al_sound_statements.proofs.StatementParts.{way_is}
 

@@ -1,3 +1,4 @@
 pub mod Statements
 pub mod Bodies
+pub mod Named
 pub mod Gathered

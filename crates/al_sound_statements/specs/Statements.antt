@@ -6,9 +6,10 @@ use Rattle.al_tree.specs.declared.expression.Expr.{Expr}
 use Rattle.al_tree.specs.declared.statement.Variable.{Variable}
 use Rattle.al_tree.specs.declared.statement.Stmt.{Stmt, map-Stmt, out-Stmt}
 use Rattle.al_tree.specs.declared.statement.Stmt.TheOpen.{Stmt-F}
+use Rattle.al_tree_walks.specs.Statements.{Standing}
 use Rattle.al_flow.specs.Targets.{number_at as target_at}
 use Rattle.al_typed.specs.Typed.{callee_of, type_of}
-use Rattle.al_typed.specs.WellTyped.{AreBranches, AreRound, CaseLabels, IsLabel, IsRescue, IsReturned, IsStatement, Nest, Scope, alt_labels, is_sound, no_labels, rows, switch_labels}
+use Rattle.al_typed.specs.WellTyped.{AreBranches, AreRound, CaseLabels, IsHandedOn, IsLabel, IsRescue, IsReturned, IsStatement, Nest, Scope, alt_labels, is_sound, no_labels, rows, switch_labels}
 use Rattle.al_convert.specs.Same.{same}
 use Rattle.al_environment.specs.declared.environment.Environment.{Environment}
 use Rattle.al_environment.specs.declared.environment.Here.{Here}
@@ -48,12 +49,6 @@ pub record IsFitValue (s : Scope) (env : Environment) (here : Here) (e : Expr) :
 
 -- ---- statements in statements
 
--- a statement, and how many loops, switches and alts, and how many loops, are round it
-pub record Standing : Type 0 where
-  pub tree : Stmt
-  pub breaks : ℕ
-  pub loops : ℕ
-
 -- of each statement in one with so many round it
 abbrev pub EachInside : {A : Type 0} → (ℕ → ℕ → A → Type 0) → ℕ → ℕ → Stmt-F A → Type 0
 EachInside P b l (Stmt-F.Empty at) = ⊤
@@ -90,10 +85,10 @@ StandsAt trees b l x = Contains trees (record { tree = x; breaks = b; loops = l 
 -- ---- what the rules of types do not ask of a statement
 
 -- Typing rule 48 takes a call of a function by its name whose result type is the same but for the capacities of channels. In a
--- function of a program it is the very type that is returned.
+-- function of a program it is like the type that is returned.
 abbrev pub GoesOn : Scope → Within → Found → Type 0
 GoesOn s w f = (x : Operand) (number : ℕ) → f ≡ found_as.Value x → callee_of x.value ≡ Some number → same false (type_of x.value) w.returns ≡ true
-    → IsReturned s.names (type_of x.value)
+    → IsHandedOn s.names (type_of x.value)
 
 module _ (s : Scope) (number : ℕ) (w : Within) (env : Environment) (here : Here) where
   -- A statement with so many loops, switches and alts, and so many loops, round it. Among any names of sound types nothing is

@@ -3,4 +3,4 @@
 
 mod laws;
 
-pub use laws::{bodies_are_sound, statements_are_sound, types_are_gathered};
+pub use laws::{bodies_are_named, bodies_are_sound, statements_are_sound, types_are_gathered};

@@ -1,5 +1,5 @@
 -- The string constants and the globals of items are no more than their tokens.
-use Rattle.std.proofs.Common.{◌≡◌, ℕ, ◌≤◌, true, List, [], ◌∷◌, ◌++◌, length, flat_map, sum_by, sym, ap, ◌∙◌, append-nil, length-append, arith}
+use Rattle.std.proofs.Common.{◌≡◌, ℕ, ◌≤◌, Bool, true, List, [], ◌∷◌, ◌++◌, length, flat_map, sum_by, sym, ap, ◌∙◌, append-nil, length-append, arith}
 use Rattle.std.proofs.lemmas.List.Sums.{sum_by_push}
 use Rattle.al_lex.specs.declared.token.Token.{Token}
 use Rattle.al_tree.specs.Types.{Leaves, dcl}
@@ -10,7 +10,7 @@ use Rattle.al_tree.specs.declared.item.Initializer.TheVariants as ini
 use Rattle.al_tree.specs.declared.item.Initializer.TheOpen.{Initializer-F}
 use Rattle.al_tree.specs.declared.item.Declarator.{Declarator}
 use Rattle.al_tree.specs.declared.item.Item.{Item}
-use Rattle.al_tree_laws.specs.Texts.{Texts, initializer_step, initializer_texts, declarator_texts, item_texts, declared_globals, item_globals, is_short}
+use Rattle.al_tree_laws.specs.Texts.{Texts, initializer_step, initializer_texts, declarator_texts, item_texts, declared_globals, item_globals}
 use Rattle.al_tree_laws.proofs.Few.{Few, few_is, nothing, behind, both, before, after, joined_map, flat_one_more}
 use Rattle.al_tree_laws.proofs.ExpressionsAre.{asg_few}
 use Rattle.al_tree_laws.proofs.StatementsAre.{block_few}
@@ -22,8 +22,8 @@ pub initializer_is : (z : Initializer-F Initializer) {x : Initializer} → roll-
 unfolding initializer_texts
 initializer_is z q = ap initializer_texts (sym q) ∙ fold-roll-Initializer Texts initializer_step z
 
-module _ (leaves : Leaves) (n : ℕ) (short : (t : Token) → is_short n (leaves.bytes t) ≡ true) where
-  few_by : {u : List Token} (z : Initializer-F Initializer) {x : Initializer} → roll-Initializer z ≡ x → Few n u (step_of z) → Few n u (initializer_texts x)
+module _ (leaves : Leaves) (Q : List ℕ → Bool) (holds : (t : Token) → Q (leaves.bytes t) ≡ true) where
+  few_by : {u : List Token} (z : Initializer-F Initializer) {x : Initializer} → roll-Initializer z ≡ x → Few Q u (step_of z) → Few Q u (initializer_texts x)
   few_by z q f = few_is (initializer_is z q) f
 
   abbrev T : Initializer → Texts
@@ -31,28 +31,28 @@ module _ (leaves : Leaves) (n : ℕ) (short : (t : Token) → is_short n (leaves
 
   module _ (types : List ℕ) where
     mutual
-      pub initializer_few : {u : List Token} {x : Initializer} {h : ℕ} → IsInitializer leaves types u x h → Few n u (initializer_texts x)
-      initializer_few (g.value {x = x} d) = few_by _ (ini.rolls-Value x) (asg_few leaves types n short d)
+      pub initializer_few : {u : List Token} {x : Initializer} {h : ℕ} → IsInitializer leaves types u x h → Few Q u (initializer_texts x)
+      initializer_few (g.value {x = x} d) = few_by _ (ini.rolls-Value x) (asg_few leaves types Q holds d)
       initializer_few (g.braces o c {u = u} {xs = xs} oc l ec) = few_by _ (ini.rolls-Braces o.place xs) (few_is (joined_map T xs) (behind o (before u (c ∷ []) (initializers_few l))))
       initializer_few (g.braces_comma o t c {u = u} {xs = xs} oc l tc ec) =
           few_by _ (ini.rolls-Braces o.place xs) (few_is (joined_map T xs) (behind o (before u (t ∷ c ∷ []) (initializers_few l))))
 
-      pub initializers_few : {u : List Token} {xs : List Initializer} {h : ℕ} → IsInitializers leaves types u xs h → Few n u (flat_map initializer_texts xs)
+      pub initializers_few : {u : List Token} {xs : List Initializer} {h : ℕ} → IsInitializers leaves types u xs h → Few Q u (flat_map initializer_texts xs)
       initializers_few (g.one {x = x} d) = few_is (append-nil (T x)) (initializer_few d)
       initializers_few (g.more t {u = u} {v = v} {xs = xs} {x = x} l c d) =
           few_is (flat_one_more T xs x) (both u (t ∷ v) (flat_map T xs) (T x) (initializers_few l) (behind t (initializer_few d)))
 
-  pub declarator_few : {d : Declared} {inside : List ℕ} {u : List Token} {x : Declarator} {h : ℕ} → IsDeclarator leaves d inside u x h → Few n u (declarator_texts x)
+  pub declarator_few : {d : Declared} {inside : List ℕ} {u : List Token} {x : Declarator} {h : ℕ} → IsDeclarator leaves d inside u x h → Few Q u (declarator_texts x)
   declarator_few (g.global {u = u} a) = nothing u
   declarator_few (g.set {d = d} t {u = u} {v = v} a c i) = after u (t ∷ v) (behind t (initializer_few d.types i))
   declarator_few (g.function {u = u} a) = nothing u
 
-  pub declarators_few : {d : Declared} {inside : List ℕ} {u : List Token} {xs : List Declarator} {h : ℕ} → IsDeclarators leaves d inside u xs h → Few n u (flat_map declarator_texts xs)
+  pub declarators_few : {d : Declared} {inside : List ℕ} {u : List Token} {xs : List Declarator} {h : ℕ} → IsDeclarators leaves d inside u xs h → Few Q u (flat_map declarator_texts xs)
   declarators_few (g.one {x = x} a) = few_is (append-nil (declarator_texts x)) (declarator_few a)
   declarators_few (g.more t {u = u} {v = v} {xs = xs} {x = x} l c a) =
       few_is (flat_one_more declarator_texts xs x) (both u (t ∷ v) (flat_map declarator_texts xs) (declarator_texts x) (declarators_few l) (behind t (declarator_few a)))
 
-  pub item_few : {d after_item : Declared} {u : List Token} {x : Item} {h : ℕ} → IsItem leaves d u x after_item h → Few n u (item_texts x)
+  pub item_few : {d after_item : Declared} {u : List Token} {x : Item} {h : ℕ} → IsItem leaves d u x after_item h → Few Q u (item_texts x)
   item_few (g.typedef w t {u = u} {v = v} wc b a tc) = nothing (w ∷ (u ++ v ++ t ∷ []))
   item_few (g.function_type w m o c t {u = u} {v = v} {r = r} wc b a mc oc p ec tc) = nothing (w ∷ (u ++ v ++ m ∷ o ∷ (r ++ c ∷ t ∷ [])))
   item_few (g.forward w m t a mc tc) = nothing (w ∷ m ∷ t ∷ [])
@@ -63,9 +63,9 @@ module _ (leaves : Leaves) (n : ℕ) (short : (t : Token) → is_short n (leaves
   item_few (g.named_enum w m {u = u} {q = q} wc mc a s) = nothing (w ∷ m ∷ (u ++ q))
   item_few (g.declare t {s = s} {u = u} {v = v} {ys = ys} a b l tc) =
       few_is (append-nil (flat_map declarator_texts ys)) (before (s ++ u ++ v) (t ∷ []) (after (s ++ u) v (declarators_few l)))
-  item_few (g.function {d = d} {s = s} {u = u} {v = v} {b = b} {head = head} a e f k) = after (s ++ u ++ v) b (block_few leaves (body_types leaves d head.owner) n short k)
+  item_few (g.function {d = d} {s = s} {u = u} {v = v} {b = b} {head = head} a e f k) = after (s ++ u ++ v) b (block_few leaves (body_types leaves d head.owner) Q holds k)
 
-  pub items_few : {d : Declared} {u : List Token} {xs : List Item} {h : ℕ} → IsItems leaves u xs d h → Few n u (flat_map item_texts xs)
+  pub items_few : {d : Declared} {u : List Token} {xs : List Item} {h : ℕ} → IsItems leaves u xs d h → Few Q u (flat_map item_texts xs)
   items_few g.none = nothing []
   items_few (g.more {u = u} {v = v} {xs = xs} {x = x} l i) = few_is (flat_one_more item_texts xs x) (both u v (flat_map item_texts xs) (item_texts x) (items_few l) (item_few i))
 

@@ -4,5 +4,7 @@ pub mod ExpressionsAre
 pub mod StatementsAre
 pub mod ItemsAre
 pub mod TextsAre
+pub mod BytesAre
 pub mod BasesAre
 pub mod UnionsAre
+pub mod CountsAre

@@ -12,7 +12,7 @@ use Rattle.al_tree.specs.declared.statement.Variable.{Variable}
 use Rattle.al_tree.specs.declared.statement.Stmt.{Stmt, roll-Stmt, map-Stmt, fold-roll-Stmt}
 use Rattle.al_tree.specs.declared.statement.Stmt.TheVariants as s
 use Rattle.al_tree.specs.declared.statement.Stmt.TheOpen.{Stmt-F}
-use Rattle.al_tree_laws.specs.Texts.{Texts, optional, texts_of, variable_texts, statement_step, statement_texts, is_short}
+use Rattle.al_tree_laws.specs.Texts.{Texts, optional, texts_of, variable_texts, statement_step, statement_texts}
 use Rattle.al_tree_laws.proofs.Few.{Few, few_is, nothing, behind, both, before, after, joined_map, flat_one_more}
 use Rattle.al_tree_laws.proofs.ExpressionsAre.{asg_few, asgs_few, expr_few}
 
@@ -32,34 +32,34 @@ case_is xs ys w x = flat_map-append T xs (s.Case w.place x ∷ ys) ∙ ap (λ ts
 default_is : (xs ys : List Stmt) (w : Token) → flat_map T (xs ++ s.Default w.place ∷ ys) ≡ flat_map T xs ++ flat_map T ys
 default_is xs ys w = flat_map-append T xs (s.Default w.place ∷ ys) ∙ ap (λ ts. flat_map T xs ++ (ts ++ flat_map T ys)) (statement_is _ (s.rolls-Default w.place))
 
-module _ (leaves : Leaves) (types : List ℕ) (n : ℕ) (short : (t : Token) → is_short n (leaves.bytes t) ≡ true) where
-  few_by : {u : List Token} (z : Stmt-F Stmt) {x : Stmt} → roll-Stmt z ≡ x → Few n u (step_of z) → Few n u (statement_texts x)
+module _ (leaves : Leaves) (types : List ℕ) (Q : List ℕ → Bool) (holds : (t : Token) → Q (leaves.bytes t) ≡ true) where
+  few_by : {u : List Token} (z : Stmt-F Stmt) {x : Stmt} → roll-Stmt z ≡ x → Few Q u (step_of z) → Few Q u (statement_texts x)
   few_by z q f = few_is (statement_is z q) f
 
-  pub variable_few : {u : List Token} {x : Variable} {h : ℕ} → IsVariable leaves types u x h → Few n u (variable_texts x)
+  pub variable_few : {u : List Token} {x : Variable} {h : ℕ} → IsVariable leaves types u x h → Few Q u (variable_texts x)
   variable_few (g.bare {u = u} d) = nothing u
-  variable_few (g.set t {u = u} {v = v} d c a) = after u (t ∷ v) (behind t (asg_few leaves types n short a))
+  variable_few (g.set t {u = u} {v = v} d c a) = after u (t ∷ v) (behind t (asg_few leaves types Q holds a))
 
-  pub variables_few : {u : List Token} {xs : List Variable} {h : ℕ} → IsVariables leaves types u xs h → Few n u (flat_map variable_texts xs)
+  pub variables_few : {u : List Token} {xs : List Variable} {h : ℕ} → IsVariables leaves types u xs h → Few Q u (flat_map variable_texts xs)
   variables_few (g.one {x = x} d) = few_is (append-nil (variable_texts x)) (variable_few d)
   variables_few (g.more t {u = u} {v = v} {xs = xs} {x = x} l c d) =
       few_is (flat_one_more variable_texts xs x) (both u (t ∷ v) (flat_map variable_texts xs) (variable_texts x) (variables_few l) (behind t (variable_few d)))
 
-  pub optional_few : {u : List Token} {x : Option Expr} {h : ℕ} → IsOptionalExpr leaves types u x h → Few n u (optional texts_of x)
+  pub optional_few : {u : List Token} {x : Option Expr} {h : ℕ} → IsOptionalExpr leaves types u x h → Few Q u (optional texts_of x)
   optional_few g.none = nothing []
-  optional_few (g.some d) = expr_few leaves types n short d
+  optional_few (g.some d) = expr_few leaves types Q holds d
 
-  ex : {u : List Token} {x : Expr} {h : ℕ} → IsExpr leaves types u x h → Few n u (texts_of x)
-  ex d = expr_few leaves types n short d
+  ex : {u : List Token} {x : Expr} {h : ℕ} → IsExpr leaves types u x h → Few Q u (texts_of x)
+  ex d = expr_few leaves types Q holds d
 
-  asg : {u : List Token} {x : Expr} {h : ℕ} → IsAsg leaves types u x h → Few n u (texts_of x)
-  asg d = asg_few leaves types n short d
+  asg : {u : List Token} {x : Expr} {h : ℕ} → IsAsg leaves types u x h → Few Q u (texts_of x)
+  asg d = asg_few leaves types Q holds d
 
-  ls : {u : List Token} {xs : List Expr} {h : ℕ} → IsAsgs leaves types u xs h → Few n u (flat_map texts_of xs)
-  ls d = asgs_few leaves types n short d
+  ls : {u : List Token} {xs : List Expr} {h : ℕ} → IsAsgs leaves types u xs h → Few Q u (flat_map texts_of xs)
+  ls d = asgs_few leaves types Q holds d
 
   mutual
-    pub stmt_few : {dangles : Bool} {u : List Token} {x : Stmt} {h : ℕ} → IsStmt leaves types dangles u x h → Few n u (statement_texts x)
+    pub stmt_few : {dangles : Bool} {u : List Token} {x : Stmt} {h : ℕ} → IsStmt leaves types dangles u x h → Few Q u (statement_texts x)
     stmt_few (g.empty t c) = few_by _ (s.rolls-Empty t.place) (nothing (t ∷ []))
     stmt_few (g.block d) = block_few d
     stmt_few (g.value t {u = u} {x = x} d c) = few_by _ (s.rolls-Value (start u) x) (before u (t ∷ []) (ex d))
@@ -100,18 +100,18 @@ module _ (leaves : Leaves) (types : List ℕ) (n : ℕ) (short : (t : Token) →
     stmt_few (g.proc w t {u = u} {xs = xs} wc l tc) = few_by _ (s.rolls-Proc w.place xs) (behind w (before u (t ∷ []) (ls l)))
     stmt_few (g.task w t {u = u} {xs = xs} wc l tc) = few_by _ (s.rolls-Task w.place xs) (behind w (before u (t ∷ []) (ls l)))
 
-    pub block_few : {u : List Token} {x : Stmt} {h : ℕ} → IsBlock leaves types u x h → Few n u (statement_texts x)
+    pub block_few : {u : List Token} {x : Stmt} {h : ℕ} → IsBlock leaves types u x h → Few Q u (statement_texts x)
     block_few (g.braces p q {u = u} {xs = xs} pc l qc) = few_by _ (s.rolls-Block p.place xs) (few_is (joined_map T xs) (behind p (before u (q ∷ []) (body_few l))))
 
-    pub body_stmt_few : {u : List Token} {x : Stmt} {h : ℕ} → IsBodyStmt leaves types u x h → Few n u (statement_texts x)
+    pub body_stmt_few : {u : List Token} {x : Stmt} {h : ℕ} → IsBodyStmt leaves types u x h → Few Q u (statement_texts x)
     body_stmt_few (g.statement d) = stmt_few d
     body_stmt_few (g.declare t {u = u} {v = v} {x = x} {ys = ys} b l tc) = few_by _ (s.rolls-Declare (start u) x ys) (before (u ++ v) (t ∷ []) (after u v (variables_few l)))
 
-    pub body_few : {u : List Token} {xs : List Stmt} {h : ℕ} → IsBody leaves types u xs h → Few n u (flat_map statement_texts xs)
+    pub body_few : {u : List Token} {xs : List Stmt} {h : ℕ} → IsBody leaves types u xs h → Few Q u (flat_map statement_texts xs)
     body_few g.no_statement = nothing []
     body_few (g.one_more {u = u} {v = v} {xs = xs} {x = x} l d) = few_is (flat_one_more T xs x) (both u v (flat_map T xs) (T x) (body_few l) (body_stmt_few d))
 
-    pub cases_few : {with_default : Bool} {u : List Token} {xs : List Stmt} {h : ℕ} → IsCases leaves types with_default u xs h → Few n u (flat_map statement_texts xs)
+    pub cases_few : {with_default : Bool} {u : List Token} {xs : List Stmt} {h : ℕ} → IsCases leaves types with_default u xs h → Few Q u (flat_map statement_texts xs)
     cases_few g.no_case = nothing []
     cases_few (g.one_case w t {u = u} {v = v} {r = r} {xs = xs} {ys = ys} {x = x} l wc a tc b) =
         few_is (case_is xs ys w x) (both u (w ∷ (v ++ t ∷ r)) (flat_map T xs) (texts_of x ++ flat_map T ys) (cases_few l)
@@ -119,6 +119,6 @@ module _ (leaves : Leaves) (types : List ℕ) (n : ℕ) (short : (t : Token) →
     cases_few (g.default_case w t {u = u} {r = r} {xs = xs} {ys = ys} l wc tc b) =
         few_is (default_is xs ys w) (both u (w ∷ t ∷ r) (flat_map T xs) (flat_map T ys) (cases_few l) (behind w (behind t (body_few b))))
 
-    pub branches_few : {u : List Token} {xs : List Stmt} {h : ℕ} → IsBranches leaves types u xs h → Few n u (flat_map statement_texts xs)
+    pub branches_few : {u : List Token} {xs : List Stmt} {h : ℕ} → IsBranches leaves types u xs h → Few Q u (flat_map statement_texts xs)
     branches_few g.no_branch = nothing []
     branches_few (g.one_branch {u = u} {v = v} {xs = xs} {x = x} l d) = few_is (flat_one_more T xs x) (both u v (flat_map T xs) (T x) (branches_few l) (stmt_few d))

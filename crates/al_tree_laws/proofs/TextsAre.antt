@@ -41,8 +41,8 @@ bytes_short text t =
 leaves_short : (text : List ℕ) (t : Token) → is_short (length text) ((leaves_of text).bytes t) ≡ true
 leaves_short text t = le-leb (length (text_of (bytes_of text t))) (length text) (bytes_short text t)
 
-tree_few : (tokens : TokenList) (tree : Tree) (height : ℕ) (is : IsTree tokens tree height) → Few (length tokens.text) is.front (flat_map item_texts tree.items)
-tree_few tokens tree height is = items_few (leaves_of tokens.text) (length tokens.text) (leaves_short tokens.text) is.tree_of.items
+tree_few : (tokens : TokenList) (tree : Tree) (height : ℕ) (is : IsTree tokens tree height) → Few (is_short (length tokens.text)) is.front (flat_map item_texts tree.items)
+tree_few tokens tree height is = items_few (leaves_of tokens.text) (is_short (length tokens.text)) (leaves_short tokens.text) is.tree_of.items
 
 front_short : (tokens : TokenList) (tree : Tree) (height : ℕ) (is : IsTree tokens tree height) → length is.front < length tokens.list
 front_short tokens tree height is = omega (arith, ap length is.is, length-append is.front (is.last ∷ []))
@@ -50,7 +50,7 @@ front_short tokens tree height is = omega (arith, ap length is.is, length-append
 pub texts_are_few : TextsAreFew
 texts_are_few = record {
   texts = λ tokens tree height is. omega (arith, (tree_few tokens tree height is).count, front_short tokens tree height is);
-  short = λ tokens tree height is. (tree_few tokens tree height is).short;
+  short = λ tokens tree height is. (tree_few tokens tree height is).each;
   globals = λ tokens tree height is. let p : sum_by item_globals tree.items ≤ length is.front = items_count (leaves_of tokens.text) is.tree_of.items in
       omega (arith, p, front_short tokens tree height is);
 }

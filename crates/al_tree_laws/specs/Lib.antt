@@ -1,3 +1,4 @@
 pub mod Bases
 pub mod Unions
 pub mod Texts
+pub mod Counts

@@ -3,4 +3,4 @@
 
 mod laws;
 
-pub use laws::{bases_are_plain, texts_are_few, unions_have_members};
+pub use laws::{bases_are_plain, declared_are_few, texts_are_few, unions_have_members};

@@ -15,7 +15,7 @@ use Rattle.al_typed.specs.declared.statement.TStmt.TheVariants as stmt
 use denote.Hole.Carrier.{hidden}
 use Rattle.al_typed.specs.Types.{promoted}
 use Rattle.al_typed.specs.Typed.{type_of}
-use Rattle.al_typed.specs.WellTyped.{Allocates, AreBounds, AreBranches, AreRound, AreStatements, GivesBack, IsAltCase, IsCall, IsCase, IsCondition, IsDefault, IsInitializer, IsLabel, IsOptionalCondition, IsOptionalValue, IsOther, IsRescue, IsReturned, IsStatement, IsValue, Nest, Returns, Scope, alt_cases, alt_labels, in_cases, in_loop, inside, switch_labels}
+use Rattle.al_typed.specs.WellTyped.{Allocates, AreBounds, AreBranches, AreRound, AreStatements, GivesBack, IsAltCase, IsCall, IsCase, IsCondition, IsDefault, IsInitializer, IsLabel, IsOptionalCondition, IsOptionalValue, IsOther, IsRescue, IsHandedOn, IsStatement, IsValue, Nest, Returns, Scope, alt_cases, alt_labels, in_cases, in_loop, inside, switch_labels}
 
 abbrev pub EachStatement : Scope → Nest → List TStmt → Type 0
 EachStatement s n [] = ⊤
@@ -167,7 +167,7 @@ IsStatement-Return s n line x = refl
 
 pub IsStatement-Become : (s : Scope) (n : Nest) (line : ℕ) (a : TExpr) →
     IsStatement s n (stmt.Become line a)
-    ≡ (IsCall s a × IsReturned s.names (type_of a))
+    ≡ (IsCall s a × IsHandedOn s.names (type_of a))
 unfolding IsStatement hidden-the_row-TStmt-1 hidden
 IsStatement-Become s n line a = refl
 

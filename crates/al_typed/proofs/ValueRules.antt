@@ -23,7 +23,7 @@ use Rattle.al_typed.specs.declared.expression.TTarget.TheVariants as target
 use Rattle.al_typed.specs.declared.expression.TReceiver.{TReceiver}
 use Rattle.al_typed.specs.declared.expression.TReceiver.TheVariants as receiver
 use denote.Hole.Carrier.{hidden}
-use Rattle.al_typed.specs.Types.{int, byte_pointer, void_pointer, promoted, is_array, is_scalar, is_complete, is_whole, points_to_complete}
+use Rattle.al_typed.specs.Types.{IsAggregate, int, byte_pointer, void_pointer, promoted, is_array, is_scalar, is_complete, is_whole, points_to_complete}
 use Rattle.al_typed.specs.Typed.{type_of, place_type, target_type, row_types, target_types}
 use Rattle.al_typed.specs.WellTyped.{AreBitsOf, AreTargets, AreValues, Changes, Gives, HasAddress, IsArrayOf, IsChannel, IsChannelOf, IsFunctionOfType, IsGiven, IsGlobalOfType, IsLocalOfType, IsOuterOfType, IsPlace, IsPromoted, IsTarget, IsValue, LeadsTo, Prints, Scope, Takes, converts, is_sound, is_stepped, is_stored, passes, result_kind, rows, strings_of}
 
@@ -280,7 +280,7 @@ IsPlace-Element s t a b = refl
 
 pub IsPlace-Member : (s : Scope) (t : Ty) (x : TPlace) (path : List ℕ) →
     IsPlace s (place.Member t x path)
-    ≡ (IsPlace s x × LeadsTo (rows s) path (place_type x) t)
+    ≡ (IsPlace s x × (IsAggregate (place_type x) × LeadsTo (rows s) path (place_type x) t))
 unfolding IsPlace hidden-the_row-TPlace-0 hidden-the_row-TExpr-1 hidden-the_row-TTarget-2 hidden-the_row-TReceiver-4 hidden
 IsPlace-Member s t x path = refl
 
@@ -347,7 +347,7 @@ IsTarget-Parts s t xs =
 
 pub Gives-Place : (s : Scope) (x : TPlace) (path : List ℕ) (how : Passed) (given : List Ty) →
     Gives s (receiver.Place x path how) given
-    ≡ ((t : Ty) × (IsPlace s x × (LeadsTo (rows s) path (place_type x) t × (given ≡ passes how t))))
+    ≡ ((t : Ty) × (IsPlace s x × (IsAggregate (place_type x) × (LeadsTo (rows s) path (place_type x) t × (given ≡ passes how t)))))
 unfolding Gives hidden-the_row-TPlace-0 hidden-the_row-TExpr-1 hidden-the_row-TTarget-2 hidden-the_row-TReceiver-4 hidden
 Gives-Place s x path how given = refl
 
@@ -359,13 +359,13 @@ Gives-Value-Address s a path given = refl
 
 pub Gives-Value-Value : (s : Scope) (a : TExpr) (path : List ℕ) (given : List Ty) →
     Gives s (receiver.Value a path passed.Value) given
-    ≡ ((t : Ty) × (IsValue s a × (LeadsTo (rows s) path (type_of a) t × (given ≡ passes passed.Value t))))
+    ≡ ((t : Ty) × (IsValue s a × (IsAggregate (type_of a) × (LeadsTo (rows s) path (type_of a) t × (given ≡ passes passed.Value t)))))
 unfolding Gives hidden-the_row-TPlace-0 hidden-the_row-TExpr-1 hidden-the_row-TTarget-2 hidden-the_row-TReceiver-4 hidden
 Gives-Value-Value s a path given = refl
 
 pub Gives-Value-Nothing : (s : Scope) (a : TExpr) (path : List ℕ) (given : List Ty) →
     Gives s (receiver.Value a path passed.Nothing) given
-    ≡ ((t : Ty) × (IsValue s a × (LeadsTo (rows s) path (type_of a) t × (given ≡ passes passed.Nothing t))))
+    ≡ ((t : Ty) × (IsValue s a × (IsAggregate (type_of a) × (LeadsTo (rows s) path (type_of a) t × (given ≡ passes passed.Nothing t)))))
 unfolding Gives hidden-the_row-TPlace-0 hidden-the_row-TExpr-1 hidden-the_row-TTarget-2 hidden-the_row-TReceiver-4 hidden
 Gives-Value-Nothing s a path given = refl
 

@@ -1,5 +1,6 @@
 pub mod TyFold
 pub mod Types
+pub mod Alike
 pub mod Capped
 pub mod Layout
 pub mod ExpressionForms

@@ -1,5 +1,5 @@
 -- What the kinds of types are.
-use Rattle.std.specs.Prelude.{ℕ, ◌/◌, Bool, true, false, not, ◌&&◌, List, Option, Some, None, slice_get, is_some}
+use Rattle.std.specs.Prelude.{◌≡◌, ℕ, ◌/◌, Bool, true, false, not, ◌&&◌, List, Option, Some, None, slice_get, is_some}
 use Rattle.std.specs.List.{list_all}
 use Rattle.al_base.specs.Arith.{width_of}
 use Rattle.al_base.specs.declared.arith.Kind.{Kind}
@@ -18,6 +18,10 @@ byte_pointer = ty.Pointer (ty.Integer Byte)
 
 abbrev pub void_pointer : Ty
 void_pointer = ty.Pointer ty.Void
+
+-- an aggr, a union or an adt
+abbrev pub IsAggregate : Ty → Type 0
+IsAggregate t = (number : ℕ) × (t ≡ ty.Aggregate number)
 
 -- how many bytes an integer takes
 abbrev pub bytes_of : Kind → ℕ

@@ -35,7 +35,8 @@ use Rattle.al_typed.specs.declared.statement.TStmt.{TStmt, Empty, Block', Declar
 use Rattle.al_typed.specs.declared.statement.TStmt as stmt
 use Rattle.al_typed.specs.ExpressionForms as form
 use Rattle.al_typed.specs.StatementForms as part
-use Rattle.al_typed.specs.Types.{int, byte_pointer, void_pointer, promoted, is_array, is_void, is_scalar, may_be_private, is_complete, is_whole, points_to_complete}
+use Rattle.al_typed.specs.Alike.{are_alike}
+use Rattle.al_typed.specs.Types.{IsAggregate, int, byte_pointer, void_pointer, promoted, is_array, is_void, is_scalar, may_be_private, is_complete, is_whole, points_to_complete}
 use Rattle.al_typed.specs.Layout.{Member, IsLaidOut, layout, size_of, units_of, in_order, member, members_of}
 use Rattle.al_typed.specs.Typed.{type_of, place_type, target_type, row_types, target_types, callee_of, local_types, parameter_types, function_type}
 
@@ -224,14 +225,14 @@ abbrev pub IsGlobalOfType : Names → ℕ → Ty → Type 0
 IsGlobalOfType (names_in p f) number t = (g : GlobalRow) × ((slice_get p.globals number ≡ Some g) × (g.ty ≡ t))
 IsGlobalOfType (any_names rows strings functions) number t = is_stored rows t ≡ true
 
--- a function's name as a value of a type
+-- A function's name as a value of a type. It may be declared with other capacities of channels than its body has.
 abbrev pub IsFunctionOfType : Names → ℕ → Ty → Type 0
-IsFunctionOfType (names_in p f) number t = (g : FunctionRow) × (IsCallable p number g × (t ≡ ty.Pointer (function_type g)))
+IsFunctionOfType (names_in p f) number t = (g : FunctionRow) × (IsCallable p number g × (are_alike t (ty.Pointer (function_type g)) ≡ true))
 IsFunctionOfType (any_names rows strings functions) number t = (is_sound rows t ≡ true) × (number < functions)
 
--- the function of that number takes values of these types, and returns one of that type
+-- the function of that number takes values of these types, and returns one of that type, but for capacities of channels
 abbrev pub Takes : Names → ℕ → List Ty → Ty → Type 0
-Takes (names_in p f) number taken returned = (g : FunctionRow) × (IsCallable p number g × ((returned ≡ g.returns) × (parameter_types g ≡ taken)))
+Takes (names_in p f) number taken returned = (g : FunctionRow) × (IsCallable p number g × (are_alike (ty.Function returned taken) (function_type g) ≡ true))
 Takes (any_names rows strings functions) number taken returned = is_sound rows returned ≡ true
 
 -- What has an address: all places but private variables.
@@ -315,7 +316,7 @@ unfoldable mutual
   IsPlace s (form.pointed t pointer) = IsValue s pointer × (type_of pointer ≡ ty.Pointer t)
   IsPlace s (form.element t base index) =
       (is_complete (rows s) t ≡ true) × (IsValue s base × ((type_of base ≡ ty.Pointer t) × (IsValue s index × (type_of index ≡ int))))
-  IsPlace s (form.member_in t of path) = IsPlace s of × LeadsTo (rows s) path (place_type of) t
+  IsPlace s (form.member_in t of path) = IsPlace s of × (IsAggregate (place_type of) × LeadsTo (rows s) path (place_type of) t)
   IsPlace s (form.pointed_member t pointer path) =
       (u : Ty) × (IsValue s pointer × ((type_of pointer ≡ ty.Pointer u) × LeadsTo (rows s) path u t))
 
@@ -335,10 +336,10 @@ unfoldable mutual
 
   pub Gives : Scope → TReceiver → List Ty → Type 0
   Gives s (form.place_before place path how) given =
-      (t : Ty) × (IsPlace s place × (LeadsTo (rows s) path (place_type place) t × (given ≡ passes how t)))
+      (t : Ty) × (IsPlace s place × (IsAggregate (place_type place) × (LeadsTo (rows s) path (place_type place) t × (given ≡ passes how t))))
   Gives s (form.value_before value path passed.Address) given = ⊥
   Gives s (form.value_before value path how) given =
-      (t : Ty) × (IsValue s value × (LeadsTo (rows s) path (type_of value) t × (given ≡ passes how t)))
+      (t : Ty) × (IsValue s value × (IsAggregate (type_of value) × (LeadsTo (rows s) path (type_of value) t × (given ≡ passes how t))))
   Gives s (form.pointer_before pointer path how) given =
       (u : Ty) × ((t : Ty) × (IsValue s pointer × ((type_of pointer ≡ ty.Pointer u) × (LeadsTo (rows s) path u t × (given ≡ passes how t)))))
 
@@ -407,9 +408,14 @@ abbrev pub IsReturned : Names → Ty → Type 0
 IsReturned (names_in p f) t = t ≡ f.returns
 IsReturned (any_names rows strings functions) t = ⊤
 
+-- of what a function returns that goes on in place of the one at hand
+abbrev pub IsHandedOn : Names → Ty → Type 0
+IsHandedOn (names_in p f) t = are_alike t f.returns ≡ true
+IsHandedOn (any_names rows strings functions) t = ⊤
+
 abbrev pub Returns : Scope → Option TExpr → Type 0
 Returns s None = IsReturned s.names ty.Void
-Returns s (Some e) = IsValue s e × IsReturned s.names (type_of e)
+Returns s (Some e) = IsValue s e × ((is_void (type_of e) ≡ false) × IsReturned s.names (type_of e))
 
 -- a branch of a par of the function of that number
 abbrev pub IsBranch : Program → FunctionRow → ℕ → ℕ → Type 0
@@ -520,7 +526,7 @@ unfoldable mutual
   IsStatement s n (Raise _ rescue) = IsRescue s.names rescue
   IsStatement s n (Goto _ label) = IsLabel s.names label
   IsStatement s n (Return _ value) = Returns s value
-  IsStatement s n (Become _ call) = IsCall s call × IsReturned s.names (type_of call)
+  IsStatement s n (Become _ call) = IsCall s call × IsHandedOn s.names (type_of call)
   IsStatement s n (Break _ levels) = AreRound s.names levels n.breaks
   IsStatement s n (Continue _ levels) = AreRound s.names levels n.loops
   IsStatement s n (Alloc _ places) = All (Allocates s) places

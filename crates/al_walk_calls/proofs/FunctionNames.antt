@@ -11,12 +11,12 @@ use Rattle.al_typed.specs.declared.ty.Ty.{Ty, out-Ty}
 use Rattle.al_typed.specs.declared.ty.Ty.TheOpen.{Ty-F}
 use Rattle.al_typed.specs.declared.ty.Ty.TheVariants as ty
 use Rattle.al_convert.specs.Same.{pointed, pointed_at, same}
-use Rattle.al_meaning.specs.Alike.{are_alike}
+use Rattle.al_typed.specs.Alike.{are_alike}
 use Rattle.al_meaning.specs.Calls.{has_type, named_by}
 use Rattle.al_meaning.specs.Here.{pointee, pointee_at}
 use Rattle.al_meaning.specs.Places.{function_address, function_at}
 use Rattle.al_walk_calls.specs.Names.{of_type}
-use Rattle.al_walk_calls.proofs.Alikes.{alike}
+use Rattle.al_convert.proofs.Alikes.{alike}
 
 one_further : (start k : ℕ) → (start + 1) + k ≡ start + suc k
 one_further start k = omega arith

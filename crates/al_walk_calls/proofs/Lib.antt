@@ -1,10 +1,8 @@
-pub mod Alikes
 pub mod BegunFrames
 pub mod Choices
 pub mod FunctionNames
 pub mod GivenFrames
 pub mod Onward
-pub mod RowItems
 pub mod SharedLocals
 pub mod SmallTypes
 pub mod StackRoom

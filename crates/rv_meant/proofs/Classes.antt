@@ -10,7 +10,7 @@ use Rattle.al_typed.specs.declared.program.Program.{Program}
 use Rattle.al_typed.specs.Types.{is_array}
 use Rattle.al_typed.specs.Typed.{function_type, parameter_types}
 use Rattle.al_typed.specs.WellTyped.{IsWellTyped}
-use Rattle.al_meaning.specs.Alike.{are_alike}
+use Rattle.al_typed.specs.Alike.{are_alike}
 use Rattle.al_meaning.specs.Calls.{has_type}
 use Rattle.al_meaning.specs.Here.{units_in}
 use Rattle.al_ir.specs.Control.{arguments_of, function_at}

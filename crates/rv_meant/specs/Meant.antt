@@ -10,7 +10,6 @@ use Rattle.al_ir.specs.Control.{arguments_of, function_at}
 use Rattle.al_ir.specs.declared.ir.Ir.{Ir}
 use Rattle.al_lowered.specs.Rules.{IsKnownStart}
 use Rattle.al_lowering.specs.Addresses.{AddressesAreWords}
-use Rattle.al_lowering.specs.Fitting.{IsFit}
 use Rattle.al_lowering.specs.Runs.{StringsAreBytes, meant}
 use Rattle.rv_isa.specs.declared.image.Contents.{Contents}
 use Rattle.rv_exec.specs.Machine.{machine}
@@ -26,12 +25,11 @@ abbrev pub TakeEquallyMany : Ir → Type 0
 TakeEquallyMany ir =
     (class : ℕ) (fs : List ℕ) → slice_get ir.classes class ≡ Some fs → All (λ g. arguments_of (function_at ir g) ≡ first_takes ir fs) fs
 
--- What is asked of a typed program for its operations to keep its meaning: it is well typed, its addresses have room in words, its
--- terms are fit for lowering, and the characters of its strings are bytes.
+-- What is asked of a typed program for its operations to keep its meaning: it is well typed, its addresses have room in words, and
+-- the characters of its strings are bytes.
 pub record IsCompilable (p : Program) : Type 0 where
   pub well_typed : IsWellTyped p
   pub addresses : AddressesAreWords p
-  pub fit : IsFit p
   pub strings : StringsAreBytes p
 
 -- In each region, which has at most 256 MiB, and along every schedule all see in a run of the image what they see in that of the

@@ -9,12 +9,12 @@ returns-clause-runs c = λ p image is bounded small ok region h low.
     let known = c.lowering_keeps_the_meaning.ensures.main p ok.well_typed in
     let equally = take_equally_many p ok.well_typed in
     runs p image is bounded equally small ok.well_typed ok.strings
-    (law.made p image (main_start p) ok.well_typed ok.addresses ok.fit (made p image is bounded equally small) known)
-    region h (law.runs p image region h ok.well_typed ok.addresses ok.fit) low
+    (law.made p image (main_start p) ok.well_typed ok.addresses (made p image is bounded equally small) known)
+    region h (law.runs p image region h ok.well_typed ok.addresses) low
 
 pub returns-clause-simulates : goal.returns-clause-simulates
 returns-clause-simulates c = λ p image is bounded small ok start known.
-    c.compiled_programs_run_as_meant.ensures.made p image start ok.well_typed ok.addresses ok.fit
+    c.compiled_programs_run_as_meant.ensures.made p image start ok.well_typed ok.addresses
     (made p image is bounded (take_equally_many p ok.well_typed) small) known
 
 pub returns-clause-made : goal.returns-clause-made

@@ -1,0 +1,5 @@
+pub mod Placed
+pub mod Positions
+pub mod Reading
+pub mod Started
+pub mod Standing

@@ -1,0 +1,12 @@
+pub mod ElementsHold
+pub mod Ascending
+pub mod Written
+pub mod Unnamed
+pub mod Walks
+pub mod Parts
+pub mod Numbering
+pub mod Puts
+pub mod Private
+pub mod Finding
+pub mod Starting
+pub mod GlobalsAre

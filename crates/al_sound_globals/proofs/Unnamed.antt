@@ -1,0 +1,17 @@
+-- Types that other crates do not export by name: they are those of values, and of what functions take.
+use Rattle.std.proofs.Common.{[]}
+use Rattle.al_scope.specs.Names.{begun, latest}
+
+abbrev pub TypeOf : (A : Type 0) → A → Type 0
+TypeOf A x = A
+
+abbrev pub ArgumentOf : (A B : Type 0) → (A → B) → Type 0
+ArgumentOf A B f = A
+
+-- what is known at a point of a text, and what was found before it
+abbrev pub Walk : Type 0
+Walk = TypeOf _ (begun [])
+
+-- what is in scope
+abbrev pub KnownNames : Type 0
+KnownNames = ArgumentOf _ _ latest

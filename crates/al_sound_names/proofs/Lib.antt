@@ -1,0 +1,13 @@
+pub mod Walks
+pub mod Indexed
+pub mod Units
+pub mod Named
+pub mod TellsNames
+pub mod Bodies
+pub mod Counts
+pub mod LocalCounts
+pub mod Rooms
+pub mod Functions
+pub mod Leads
+pub mod FewAre
+pub mod ProgramsAre

@@ -1,0 +1,17 @@
+pub mod Outcomes
+pub mod Lists
+pub mod Trees
+pub mod Pars
+pub mod Flows
+pub mod TypedAre
+pub mod NumbersAre
+pub mod OrderIs
+pub mod FunctionsAre
+pub mod GathersAre
+pub mod NumberedAre
+pub mod ParametersAre
+pub mod KnownAre
+pub mod InnerAre
+pub mod RoundsAre
+pub mod UnitsAre
+pub mod RowsAre

@@ -1,0 +1,3 @@
+pub mod Unnamed
+pub mod Units
+pub mod Rows

@@ -1,0 +1,4 @@
+mod Ways
+mod ExpressionWays
+mod StatementWays
+pub mod SharedAre

@@ -1,0 +1,3 @@
+mod Types
+mod Inside
+pub mod SignaturesAre

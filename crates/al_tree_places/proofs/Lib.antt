@@ -1,0 +1,14 @@
+pub mod Unnamed
+pub mod Times
+pub mod ExpressionsAre
+pub mod StatementsAre
+pub mod ItemsAre
+pub mod Begins
+pub mod MarksAre
+pub mod BodiesAre
+pub mod TokensAre
+pub mod Entering
+pub mod Resolving
+pub mod ItemsResolve
+pub mod LawsHold
+pub mod FewAre
