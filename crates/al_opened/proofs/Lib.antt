@@ -1,0 +1,4 @@
+pub mod Closed
+mod Ends
+mod Sense
+mod Going
