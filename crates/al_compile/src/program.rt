@@ -1,10 +1,12 @@
 //! From a typed program to its image.
 ghost use Rattle.std.specs.Prelude.{◌≡◌, ◌<◌, ◌^◌, length, IfOk};
 ghost use Rattle.al_typed.specs.Layout.{IsLaidOut};
+ghost use Rattle.al_typed.specs.WellTyped.{IsWellTyped};
 ghost use Rattle.al_ir.specs.Bounds.{IsBounded};
 ghost use Rattle.al_lower_code.specs.Functions.{lowered};
+ghost use Rattle.al_lowering.specs.Addresses.{AddressesAreWords};
 ghost use Rattle.rv_gen.specs.Generating.{IsGenerated};
-ghost use Rattle.rv_meant.specs.Meant.{RunsAlike, SimulatesAlike};
+ghost use Rattle.rv_meant.specs.Meant.{IsCompilable, RunsAlike, SimulatesAlike};
 
 use al_base::NoMemory;
 use al_ir::Ir;
@@ -48,15 +50,16 @@ fn image_of(alloc: Global, ir: &Ir) -> Result<Image, NoMemory>
     }
 }
 
-/// The image of a typed program. Where the program can be compiled, the machine runs the image as the program's meaning runs the
-/// program: in each region all see the same along every schedule, and from each start that the program has the image asks the same.
+/// The image of a typed program. Where the program is well typed and its types are sound, as those of each accepted text are, the
+/// machine runs the image as the program's meaning runs the program: in each region all see the same along every schedule. Where its
+/// addresses are words too, the image asks the same from each start that the program has.
 ///
 /// Where operations would not keep the bounds that code is made for, or the code would have 2^23 words or more, there is no memory
 /// for it.
 pub fn compile(alloc: Global, p: &Program) -> Result<Image, NoMemory>
     requires { IsLaidOut p.now.aggregates }
-    ensures runs { IfOk result (λ image. RunsAlike p.now image) }
-    ensures simulates { IfOk result (λ image. SimulatesAlike p.now image) }
+    ensures runs { IfOk result (λ image. IsCompilable p.now → RunsAlike p.now image) }
+    ensures simulates { IfOk result (λ image. IsWellTyped p.now → AddressesAreWords p.now → SimulatesAlike p.now image) }
 {
     images_run_as_meant();
     let ir = operations(alloc, p)?;

@@ -2,4 +2,5 @@ mod NoPlace
 mod Opened
 mod Homes
 mod Classes
+mod Bounds
 mod Made
