@@ -7,7 +7,6 @@ use Rattle.al_words.specs.declared.job.Mode.{Mode}
 use Rattle.al_words.specs.declared.job.Mode.TheVariants.{Run, Replay, Recorded, Build, Exec, Check, Sample, Race, Step, Link}
 use Rattle.al_words.specs.declared.job.Job.{Job}
 use Rattle.rv_isa.specs.declared.image.Contents.{Contents}
-use Rattle.rv_meant.specs.Meant.{IsCompilable}
 use Rattle.rv_image.specs.declared.fault.ImageFault.{ImageFault}
 use Rattle.rv_image.specs.Spelling.{IsImage}
 use Rattle.rv_image.specs.Reading.{reading}
@@ -236,8 +235,8 @@ module _ (call : Call) where
   complete_end end o job text e b mode is has calm calm' = complete_run job call text is has calm calm' end (ends_run end o job e b mode)
 
   pub meant_end : (end : End) (o : Option Job) (job : Job) (text : List ℕ) (p : Program) → job.region ≤ 256 → EndsBy o call end → built o ≡ Some job → job.mode ≡ Run → text_in call.told job.file ≡ Some text
-      → IsAccepted text p → IsWithin p → IsCompilable p → EndsAsMeant p job call end
-  meant_end end o job text p few e b mode is accepted within compilable = run_as_meant job call few text is p accepted within compilable end (ends_run end o job e b mode)
+      → IsAccepted text p → IsWithin p → EndsAsMeant p job call end
+  meant_end end o job text p few e b mode is accepted within = run_as_meant job call few text is p accepted within end (ends_run end o job e b mode)
 
   pub unbuilt_end : (end : End) (o : Option Job) (job : Job) (text : List ℕ) → EndsBy o call end → built o ≡ Some job → job.mode ≡ Build → text_in call.told job.file ≡ Some text → (HasProgram text → ⊥)
       → ((r : Reason) × (end ≡ Refused r) × IsRefused text r) ⊎ ((end ≡ ReadFault) ⊎ (end ≡ NoMemory))

@@ -9,6 +9,7 @@ use Rattle.al_front.specs.Accepted.{IsAccepted, IsRefused}
 use Rattle.al_front.specs.declared.refused.Refused.{Refused as Reason}
 use Rattle.al_front.specs.declared.refused.FrontStop.{FrontStop}
 use Rattle.al_front.specs.declared.refused.FrontStop.TheVariants as stop
+use Rattle.rv_meant.specs.Meant.{IsCompilable}
 use Rattle.alef_run.specs.Call.{IsRead, text_in}
 use Rattle.alef_run.specs.CheckMode.{most_of_text}
 use Rattle.alef_run.specs.Compiling.{Compiles, CompilesProgram, IsCompiled, CompilesText, IsImageOf, LacksProgram}
@@ -19,12 +20,12 @@ use Rattle.alef_run.proofs.Checks.{accepted_whole, refused_whole}
 
 -- ---- a text
 
-pub text_compiles : (text : List ℕ) (found : Result Program FrontStop) (image : Result Contents End) → IfOk found (λ p. IsAccepted text p × IsWithin p)
+pub text_compiles : ((text : List ℕ) (p : Program) → IsAccepted text p → IsCompilable p) → (text : List ℕ) (found : Result Program FrontStop) (image : Result Contents End) → IfOk found (λ p. IsAccepted text p × IsWithin p)
     → ((r : Reason) → found ≡ Err (stop.Refused r) → IsRefused text r) → Compiles found image → CompilesText text image
-text_compiles text (Ok p) (Ok image) is refused c = (p, is.0, is.1, c)
-text_compiles text (Ok p) (Err end) is refused c = let P : End → Type 0 = λ end. CompilesText text (Err end) in subst P (sym c) tt
-text_compiles text (Err (stop.Refused r)) image is refused c = subst (CompilesText text) (sym c) (refused r refl)
-text_compiles text (Err stop.NoMemory) image is refused c = subst (CompilesText text) (sym c) tt
+text_compiles compilable text (Ok p) (Ok image) is refused c = (p, is.0, is.1, c (compilable text p is.0))
+text_compiles compilable text (Ok p) (Err end) is refused c = let P : End → Type 0 = λ end. CompilesText text (Err end) in subst P (sym c) tt
+text_compiles compilable text (Err (stop.Refused r)) image is refused c = subst (CompilesText text) (sym c) (refused r refl)
+text_compiles compilable text (Err stop.NoMemory) image is refused c = subst (CompilesText text) (sym c) tt
 
 -- ---- the text of a name
 

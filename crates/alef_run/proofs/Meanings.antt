@@ -1,4 +1,4 @@
--- The mode `run`: where the program of the text may be compiled, the run of its image is the run of its meaning.
+-- The mode `run`: the run of the image of a text is the run of its meaning.
 use Rattle.std.proofs.Common.{◌≡◌, ℕ, ◌≤◌, List, [], length, Option, Some, None, refl, sym, ap, ◌∙◌, subst, arith, inl, inr}
 use Rattle.std.specs.Prelude.{◌⊎◌, IsSome, option_map, option_and_then}
 use Rattle.std.specs.Option.{option_map_or}
@@ -13,7 +13,7 @@ use Rattle.al_typed.specs.declared.program.Program.{Program}
 use Rattle.al_typed.specs.Measures.{IsWithin}
 use Rattle.al_front.specs.Accepted.{IsAccepted}
 use Rattle.al_front.proofs.Laws.{one_program, never_both}
-use Rattle.rv_meant.specs.Meant.{RunsAlike, IsCompilable}
+use Rattle.rv_meant.specs.Meant.{RunsAlike}
 use Rattle.alef_run.specs.Call.{Call, DidNothing, text_in}
 use Rattle.alef_run.specs.ExecMode.{DidRunImage, comes_to}
 use Rattle.alef_run.specs.Meant.{seen_along, IsRunTo, IsOverAs, WroteAsMeant, EndsAsMeant}
@@ -33,9 +33,9 @@ some_seen h = on (run_of h)
     on (Some w) is = (w.shared, refl)
     on None is = absurd (cc)
 
-module _ (p : Program) (job : Job) (image : Contents) (call : Call) (few : job.region ≤ 256) (compilable : IsCompilable p) (alike : RunsAlike p image) (s : Shared) (seen : seen_of (comes_to image job call) ≡ Some s) where
+module _ (p : Program) (job : Job) (image : Contents) (call : Call) (few : job.region ≤ 256) (alike : RunsAlike p image) (s : Shared) (seen : seen_of (comes_to image job call) ≡ Some s) where
   same : seen_along p (bytes_of_region job) call.schedule ≡ Some s
-  same = alike compilable (bytes_of_region job) call.schedule (omega (arith, few)) ∙ seen
+  same = alike (bytes_of_region job) call.schedule (omega (arith, few)) ∙ seen
 
   output_is : output_of (comes_to image job call) ≡ s.output
   output_is = ap (λ (o : Option Shared). option_map_or (λ (s : Shared). s.output) o []) seen
@@ -75,18 +75,17 @@ module _ (p : Program) (job : Job) (image : Contents) (call : Call) (few : job.r
   ran_as_meant (BadImage fault) d = absurd d.ran
 
 -- so is that of each run, whatever the host tells
-pub did_as_meant : (p : Program) (job : Job) (image : Contents) (call : Call) (end : End) → job.region ≤ 256 → IsCompilable p → DidRun job p image call end → EndsAsMeant p job call end
-did_as_meant p job image call end few compilable d =
+pub did_as_meant : (p : Program) (job : Job) (image : Contents) (call : Call) (end : End) → job.region ≤ 256 → DidRun job p image call end → EndsAsMeant p job call end
+did_as_meant p job image call end few d =
     let some = some_seen (comes_to image job call) d.run.legal.runs in
-    ran_as_meant p job image call few compilable d.compiled.alike some.0 some.1 end d.run
+    ran_as_meant p job image call few d.compiled.alike some.0 some.1 end d.run
 
-module _ (job : Job) (call : Call) (few : job.region ≤ 256) (text : List ℕ) (is : text_in call.told job.file ≡ Some text) (p : Program) (accepted : IsAccepted text p) (within : IsWithin p)
-    (compilable : IsCompilable p) where
+module _ (job : Job) (call : Call) (few : job.region ≤ 256) (text : List ℕ) (is : text_in call.told job.file ≡ Some text) (p : Program) (accepted : IsAccepted text p) (within : IsWithin p) where
   text_as_meant : (end : End) → RanText job call end → EndsAsMeant p job call end
   text_as_meant end (q, image, d) =
       let same : q ≡ p = one_program text q p (d.compiled.text text is) accepted in
       let D : Program → Type 0 = λ q. DidRun job q image call end in
-      did_as_meant p job image call end few compilable (subst D same d)
+      did_as_meant p job image call end few (subst D same d)
 
   pub run_as_meant : (end : End) → EndsRun job call end → EndsAsMeant p job call end
   run_as_meant (Ran over) e = text_as_meant (Ran over) e

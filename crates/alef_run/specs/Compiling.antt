@@ -7,15 +7,15 @@ use Rattle.al_typed.specs.Measures.{IsWithin}
 use Rattle.al_front.specs.Accepted.{IsAccepted, IsRefused}
 use Rattle.al_front.specs.declared.refused.FrontStop.{FrontStop}
 use Rattle.al_front.specs.declared.refused.FrontStop.TheVariants as front
-use Rattle.rv_meant.specs.Meant.{RunsAlike}
+use Rattle.rv_meant.specs.Meant.{IsCompilable, RunsAlike}
 use Rattle.alef_run.specs.Call.{IsRead, HostFails, text_in}
 use Rattle.alef_run.specs.CheckMode.{most_of_text}
 use Rattle.alef_run.specs.declared.report.End.{End}
 use Rattle.alef_run.specs.declared.report.End.TheVariants.{Ran, Made, Words, ReadFault, Refused, BadImage, BadSchedule, BadEntry, BadNumber, WriteFault, NoMemory}
 
--- what compiling a program gives
+-- what compiling a program gives, which runs alike where the program can be compiled
 abbrev pub CompilesProgram : Program → Result Contents End → Type 0
-CompilesProgram p (Ok image) = RunsAlike p image
+CompilesProgram p (Ok image) = IsCompilable p → RunsAlike p image
 CompilesProgram p (Err end) = end ≡ NoMemory
 
 -- what compiling gives where the front end found that

@@ -18,7 +18,6 @@ ghost use Rattle.al_front.specs.Accepted.{IsAccepted, IsRefused};
 ghost use Rattle.al_front.specs.declared.refused.Refused.{Refused as Reason};
 ghost use Rattle.al_show.specs.Walks.{IsRefused as IsEntryRefused};
 ghost use Rattle.alef_run.specs.declared.report.ScheduleFault.{ScheduleFault};
-ghost use Rattle.rv_meant.specs.Meant.{IsCompilable};
 ghost use Rattle.alef_run.specs.Status.{status_of, line_of_end};
 ghost use Rattle.alef_run.specs.Call.{LogGets, LacksText, text_in, call_by};
 ghost use Rattle.alef_run.specs.CheckMode.{HasProgram};
@@ -141,9 +140,9 @@ pub fn alef<R: Threads + Wait + Sync, H: Host, K: Sink, L: Sink, G: Gate>(
         → IsEntryRefused p (bytes_of_region job) (first_of job h) k
         → (result.end ≡ End.BadEntry k) ⊎ ((result.end ≡ End.ReadFault) ⊎ (result.end ≡ End.NoMemory)) }
 
-    // Where a text may be compiled, `run` writes just the output that its meaning gives along the schedule, and ends as it ends there.
+    // `run` writes just the output that the text's meaning gives along the schedule, and ends as it ends there.
     ensures meant { (job : Job) (text : List ℕ) (p : Program) → job_by (map (λ word. word.now) words.now) ≡ Some job → job.mode ≡ Mode.Run
-        → text_in (H.content host.old) job.file ≡ Some text → IsAccepted text p → IsWithin p → IsCompilable p
+        → text_in (H.content host.old) job.file ≡ Some text → IsAccepted text p → IsWithin p
         → EndsAsMeant p job (call_by (H.content host.old) (H.content host.new) (H.faults host.old) (H.faults host.new) (K.got out.old) (K.got out.new) (K.faults out.old) (K.faults out.new) result) result.end }
 
     // A text that is accepted within the limits and an image run to their end, and such a text is built and is found to be so, unless the

@@ -13,6 +13,7 @@ use al_front::{FrontStop, front};
 use al_host::Host;
 use al_typed::Program;
 use rv_isa::image::Image;
+use rv_sound_runs::accepted_texts_run_as_meant;
 use std::alloc::Global;
 
 /// The image of the program that the front end found, or why there is none.
@@ -34,6 +35,7 @@ fn image_found(alloc: Global, found: &Result<Program, FrontStop>) -> Result<Imag
 fn compiled(alloc: Global, text: &[u8]) -> Result<Image, End>
     ensures { CompilesText text.now result }
 {
+    accepted_texts_run_as_meant();
     let found = front(alloc, text);
     let image = image_found(alloc, &found);
     kept(image, found)
