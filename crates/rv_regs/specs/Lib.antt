@@ -1,2 +1,5 @@
 pub mod Uses
 pub mod Homes
+pub mod Marks
+pub mod Rows
+pub mod Placed

@@ -13,13 +13,13 @@ pub record Range : Type 0 where
   pub from : ℕ
   pub count : ℕ
 
-abbrev one : ℕ → List Range
+abbrev pub one : ℕ → List Range
 one t = record { from = t; count = 1 } ∷ []
 
-abbrev several : (from count : ℕ) → List Range
+abbrev pub several : (from count : ℕ) → List Range
 several from count = record { from = from; count = count } ∷ []
 
-abbrev IsInRange : ℕ → Range → Type 0
+abbrev pub IsInRange : ℕ → Range → Type 0
 IsInRange t r = (r.from ≤ t) × (t < r.from + r.count)
 
 -- a slot is one of these
@@ -28,22 +28,22 @@ IsIn t ranges = Any (IsInRange t) ranges
 
 -- ---- what is read
 
-abbrev class_arguments : Ir → List ℕ → ℕ
+abbrev pub class_arguments : Ir → List ℕ → ℕ
 class_arguments ir [] = 0
 class_arguments ir (f ∷ fs) = arguments_of (function_at ir f)
 
-abbrev units_count : Ir → (layout : ℕ) → ℕ
+abbrev pub units_count : Ir → (layout : ℕ) → ℕ
 units_count ir layout = length (units_at ir layout)
 
-abbrev sent : Option ℕ → (words : ℕ) → List Range
+abbrev pub sent : Option ℕ → (words : ℕ) → List Range
 sent None words = []
 sent (Some t) words = several t words
 
-abbrev sent_by : List TalkBranch → List Range
+abbrev pub sent_by : List TalkBranch → List Range
 sent_by [] = []
 sent_by (b ∷ bs) = sent b.send b.words ++ sent_by bs
 
-abbrev channels : List TalkBranch → List Range
+abbrev pub channels : List TalkBranch → List Range
 channels [] = []
 channels (b ∷ bs) = one b.chan ++ channels bs
 
@@ -93,9 +93,12 @@ reads ir _ = []
 -- ---- what is written
 
 -- the slots that a talk may receive words in
-abbrev received : (got : ℕ) → List TalkBranch → List Range
+abbrev pub received_by : (got : ℕ) → TalkBranch → List Range
+received_by got b = elim b.send [ None ↦ several got b.words | Some t ↦ [] ]
+
+abbrev pub received : (got : ℕ) → List TalkBranch → List Range
 received got [] = []
-received got (b ∷ bs) = elim b.send [ None ↦ several got b.words | Some t ↦ [] ] ++ received got bs
+received got (b ∷ bs) = received_by got b ++ received got bs
 
 -- slots that have another word behind it, or none
 abbrev pub writes : Ir → Op → List Range
