@@ -9,6 +9,7 @@ mod limits;
 mod machinery;
 mod order;
 mod plain;
+mod rounds;
 mod sends;
 mod sharing;
 mod start;
