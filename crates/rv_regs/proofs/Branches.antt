@@ -1,8 +1,8 @@
 -- Slots of the branches of a talk, one after the other.
 use Rattle.std.proofs.Common.{◌≡◌, ℕ, ◌+◌, Bool, true, false, ◌&&◌, ◌||◌, nat_le, nat_lt, List, [], ◌∷◌, ◌++◌, refl, ap, ◌∙◌, sym}
 use Rattle.al_ir.specs.declared.op.TalkBranch.{TalkBranch}
-use Rattle.rv_regs.specs.Uses.{Range, sent, sent_by, received, received_by}
-use Rattle.rv_regs.specs.Marks.{is_in}
+use Rattle.rv_regs.specs.Uses.{Range, sent, sent_by, received}
+use Rattle.rv_regs.specs.Marks.{is_in, received_by}
 
 or_assoc : (a b c : Bool) → ((a || b) || c) ≡ (a || (b || c))
 or_assoc true b c = refl

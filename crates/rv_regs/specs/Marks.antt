@@ -1,16 +1,21 @@
 -- What is found out of one slot before it gets a register: marks at the operations before which it is live.
-use Rattle.std.specs.Prelude.{◌≡◌, ℕ, ◌+◌, nat_le, nat_lt, Bool, true, false, not, ◌&&◌, ◌||◌, List, [], ◌∷◌, slice_index_or}
+use Rattle.std.specs.Prelude.{◌≡◌, ℕ, ◌+◌, nat_le, nat_lt, Bool, true, false, not, ◌&&◌, ◌||◌, List, [], ◌∷◌, Some, None, slice_index_or}
 use Rattle.al_ir.specs.declared.ir.Operation.{Operation}
 use Rattle.al_ir.specs.declared.ir.Function.{Function}
 use Rattle.al_ir.specs.declared.ir.Ir.{Ir}
+use Rattle.al_ir.specs.declared.op.TalkBranch.{TalkBranch}
 use Rattle.al_ir.specs.declared.op.Op.{Op}
 use Rattle.al_ir.specs.declared.op.Op.TheVariants.{Invoke, InvokePointer, LoadUnits, StoreUnits, Talk, Proc, Task, Par, PutText}
-use Rattle.rv_regs.specs.Uses.{Range, one, channels, reads, writes, in_frame, comes_next}
+use Rattle.rv_regs.specs.Uses.{Range, one, several, channels, reads, writes, in_frame, comes_next}
 
 -- the slots of `IsIn`, as a test
 abbrev pub is_in : ℕ → List Range → Bool
 is_in t [] = false
 is_in t (r ∷ rs) = (nat_le r.from t && nat_lt t (r.from + r.count)) || is_in t rs
+
+-- the slots that a branch of a talk may receive words in
+abbrev pub received_by : (got : ℕ) → TalkBranch → List Range
+received_by got b = elim b.send [ None ↦ several got b.words | Some t ↦ [] ]
 
 -- ---- what an operation does with slots that it finds by no address
 

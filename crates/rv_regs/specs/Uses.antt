@@ -93,12 +93,9 @@ reads ir _ = []
 -- ---- what is written
 
 -- the slots that a talk may receive words in
-abbrev pub received_by : (got : ℕ) → TalkBranch → List Range
-received_by got b = elim b.send [ None ↦ several got b.words | Some t ↦ [] ]
-
 abbrev pub received : (got : ℕ) → List TalkBranch → List Range
 received got [] = []
-received got (b ∷ bs) = received_by got b ++ received got bs
+received got (b ∷ bs) = elim b.send [ None ↦ several got b.words | Some t ↦ [] ] ++ received got bs
 
 -- slots that have another word behind it, or none
 abbrev pub writes : Ir → Op → List Range

@@ -55,6 +55,8 @@ impl Homes {
 
 /// A function with more operations than this has no slot in a register.
 const MOST_OPERATIONS: usize = 65_536;
+/// Slots are looked at, from the first on, while going over all operations for each of them takes at most so many steps.
+const MOST_STEPS: usize = 1 << 22;
 
 /// The home of a slot: a register, where all operations agree with one and one is free wherever it would be busy, or else the
 /// slot's own word. An argument that is not live at the start stays where it comes.
@@ -69,6 +71,9 @@ fn home_for(
     requires rows { length taken.old ≡ 10 }
     ensures { IfOk result (λ home. Gets ir.now f.now slot taken.old taken.new home) }
 {
+    if slot as usize > MOST_STEPS / (f.code.len() + 1) {
+        return Ok(Home::Frame(slot));
+    }
     let live = live(alloc, ir, slot, f.code.as_slice())?;
     let marks = live.as_slice();
     if slot < f.arguments && !marked(marks, 0) {
@@ -97,7 +102,8 @@ fn homes_for(alloc: Global, ir: &Ir, f: &Function) -> Result<Items<Home>, NoMemo
     Ok(homes)
 }
 
-/// The homes of the slots of function number `function`.
+/// The homes of the slots of function number `function`. Registers go to slots in their order, each to the first one that is free
+/// at all operations where it would be busy.
 pub fn place(alloc: Global, ir: &Ir, function: u32) -> Result<Homes, NoMemory>
     ensures { IfOk result (λ homes. AreHomes ir.now function (home_at homes)) }
 {

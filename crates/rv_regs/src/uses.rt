@@ -5,8 +5,8 @@
 ghost use Rattle.std.specs.Prelude.{◌≡◌, ◌++◌, ◌<◌, ◌^◌, ◌*◌, ◌||◌, ◌&&◌, length};
 ghost use Rattle.al_ir.specs.Control.{arguments_of, function_at};
 ghost use Rattle.al_ir.specs.Step.{class_of, kind_words, long_words};
-ghost use Rattle.rv_regs.specs.Uses.{several, one, class_arguments, channels, sent, sent_by, received, received_by};
-ghost use Rattle.rv_regs.specs.Marks.{is_in, named_reads, named_writes, may_find, is_call, is_sure};
+ghost use Rattle.rv_regs.specs.Uses.{several, one, class_arguments, channels, sent, sent_by, received};
+ghost use Rattle.rv_regs.specs.Marks.{is_in, received_by, named_reads, named_writes, may_find, is_call, is_sure};
 
 use al_base::{Kind, Op as Arith};
 use al_ir::{Ir, Op, TalkBranch};
