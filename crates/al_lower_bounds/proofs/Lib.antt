@@ -1,0 +1,9 @@
+pub mod Rooms
+pub mod Ends
+pub mod Few
+pub mod Pieces
+pub mod Forms
+pub mod Changes
+pub mod Terms
+pub mod Heads
+pub mod Statements
