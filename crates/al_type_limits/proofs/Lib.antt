@@ -1,0 +1,5 @@
+mod Each
+mod TypesAre
+mod ExpressionsAre
+mod StatementsAre
+mod ItemsAre
