@@ -14,6 +14,18 @@ head_is_not x c a h = h 0 x (omega arith)
 tail_has_no : (x c : ℕ) (a : List ℕ) → HasNo c (x ∷ a) → HasNo c a
 tail_has_no x c a h k d lt = h (suc k) d (omega arith)
 
+-- the first such byte cuts a list in one way
+pub cut_once : (c : ℕ) (l b x y : List ℕ) → All (λ byte. byte ≢ c) l → All (λ byte. byte ≢ c) b → l ++ c ∷ x ≡ b ++ c ∷ y → (l ≡ b) × (x ≡ y)
+cut_once c [] [] x y p q e = (refl, cc)
+cut_once c [] (w ∷ b) x y p q e = absurd (head_is_not w c b q (let same : w ≡ c = cc in same))
+cut_once c (z ∷ l) [] x y p q e = absurd (head_is_not z c l p (let same : z ≡ c = cc in same))
+cut_once c (z ∷ l) (w ∷ b) x y p q e =
+    let rest : l ++ c ∷ x ≡ b ++ c ∷ y = cc in
+    let more = cut_once c l b x y (tail_has_no z c l p) (tail_has_no w c b q) rest in
+    let head : z ≡ w = cc in
+    let tail : l ≡ b = more.0 in
+    (cc, more.1)
+
 -- the first place of a byte
 pub position_behind : (a b : List ℕ) (c n : ℕ) → All (λ byte. byte ≢ c) a → position_from (λ byte. byte == c) n (a ++ c ∷ b) ≡ Some (n + length a)
 position_behind [] b c n h =

@@ -1,7 +1,9 @@
 -- Lists of file names, and the first line at which a text is none. The form is this project's choice.
-use Rattle.std.specs.Prelude.{◌≡◌, ◌≢◌, ℕ, ◌+◌, ◌≤◌, List, [], ◌∷◌, ◌++◌, length, All}
+use Rattle.std.specs.Prelude.{◌≡◌, ◌≢◌, ℕ, ◌+◌, ◌≤◌, List, [], ◌∷◌, ◌++◌, length, All, Result, Ok, Err}
 use Rattle.std.specs.List.{flat_map}
 use Rattle.std.specs.Str.{IsUtf8}
+use Rattle.al_link_lists.specs.declared.stop.ListStop.{ListStop}
+use Rattle.al_link_lists.specs.declared.stop.ListStop.TheVariants.{Line, NoMemory}
 
 abbrev pub line_feed : ℕ
 line_feed = 10
@@ -50,3 +52,9 @@ pub record IsWrongLine (text : List ℕ) (k : ℕ) : Type 0 where
   pub names : List (List ℕ)
   pub number : k ≡ length names + 1
   pub is : IsWrongAfter text names
+
+-- the names of a text, or the first line that is wrong
+abbrev pub IsReading : List ℕ → Result (List (List ℕ)) ListStop → Type 0
+IsReading text (Ok names) = IsList text names
+IsReading text (Err (Line k)) = IsWrongLine text k
+IsReading text (Err NoMemory) = Unit {0}

@@ -1,5 +1,6 @@
-ghost use Rattle.std.specs.Prelude.{◌≡◌, ℕ, IfOk, Err};
-ghost use Rattle.al_link_lists.specs.Lists.{IsList, IsWrongLine};
+ghost use Rattle.std.specs.Prelude.{◌≡◌, ◌≢◌, ℕ, List, Result, IfOk, Err};
+ghost use Rattle.al_link_lists.specs.Lists.{IsList, IsWrongLine, IsReading};
+ghost use Rattle.al_link_lists.specs.declared.stop.ListStop.{ListStop as SpecStop};
 
 use crate::line::first_line;
 use crate::stop::ListStop;
@@ -10,9 +11,8 @@ use std::alloc::Global;
 /// The most names of a list.
 const MOST: usize = 64;
 
-/// The names of a list.
 #[tactic(auto, using(crate::proofs::Texts::text_push))]
-pub fn read_list(alloc: Global, text: &[u8]) -> Result<Items<Name>, ListStop>
+fn names_of(alloc: Global, text: &[u8]) -> Result<Items<Name>, ListStop>
     ensures list { IfOk result (IsList text.now) }
     ensures wrong { (k : ℕ) → result ≡ Err (ListStop.Line k) → IsWrongLine text.now k }
 {
@@ -30,4 +30,12 @@ pub fn read_list(alloc: Global, text: &[u8]) -> Result<Items<Name>, ListStop>
         rest = more;
     }
     Ok(names)
+}
+
+/// The names of a list, or the first line that is wrong, each exactly where it is so.
+pub fn read_list(alloc: Global, text: &[u8]) -> Result<Items<Name>, ListStop>
+    ensures reading { IsReading text.now result }
+    ensures only { (r : Result (List (List ℕ)) SpecStop) → IsReading text.now r → r ≢ Err ListStop.NoMemory → result ≢ Err ListStop.NoMemory → result ≡ r }
+{
+    names_of(alloc, text)
 }
