@@ -88,8 +88,12 @@ pub kept_count : (r : Result (Vec Entry) TraceStop) (k before after : ℕ) → I
 kept_count (Ok v) k before after h e = e
 kept_count (Err stop) k before after h e = subst (λ (s : TraceStop). FaultCounts (let r : Result (Vec Entry) TraceStop = Err s in r) before after) (sym h) e
 
--- ---- how many entries there are
+-- ---- what entries there are
 
 pub few_given : (r : Result (Vec Entry) TraceStop) (text : List ℕ) → Gives r text → IfOk r (λ v. length v.items ≤ most)
 few_given (Ok v) text g = g.few
 few_given (Err stop) text g = tt
+
+pub entries_given : (r : Result (Vec Entry) TraceStop) (text : List ℕ) → Gives r text → IfOk r (λ v. All IsEntry v.items)
+entries_given (Ok v) text g = g.entries
+entries_given (Err stop) text g = tt

@@ -1,9 +1,9 @@
-ghost use Rattle.std.specs.Prelude.{◌≡◌, ◌≤◌, ◌++◌, ℕ, List, Result, Ok, Err, [], length, OnOk, IfOk, IfErr};
+ghost use Rattle.std.specs.Prelude.{◌≡◌, ◌≤◌, ◌++◌, ℕ, List, Result, Ok, Err, [], length, All, OnOk, IfOk, IfErr};
 ghost use Rattle.al_event.specs.declared.entry.Entry.{Entry};
 ghost use Rattle.al_host.specs.Outside.{Content, Faulted, WhereTold};
 ghost use Rattle.al_trace.specs.declared.stop.TraceStop.{TraceStop};
 ghost use Rattle.al_trace.specs.Lines.{IsPart, text_of};
-ghost use Rattle.al_trace.specs.Schedule.{Answers, Gives, IsReading, most};
+ghost use Rattle.al_trace.specs.Schedule.{Answers, Gives, IsEntry, IsReading, most};
 ghost use Rattle.al_trace.specs.Reading.{ReadsAll, FaultCounts, StopsIn};
 
 use crate::lines::Lines;
@@ -24,17 +24,19 @@ pub fn read<H: Host>(alloc: Global, host: &mut H) -> Result<Vec<Entry>, TraceSto
     ensures only { WhereTold (λ before after. (reading : Result (List Entry) TraceStop) → IsReading before.left reading → Answers result reading) (H.content host.old) (H.content host.new) }
     ensures end { OnOk result (WhereTold (λ before after. after.left ≡ []) (H.content host.old) (H.content host.new)) }
     ensures few { IfOk result (λ entries. length entries.items ≤ most) }
+    ensures entries { IfOk result (λ entries. All IsEntry entries.items) }
     ensures same { WhereTold (λ before after. after.texts ≡ before.texts) (H.content host.old) (H.content host.new) }
     ensures faults { FaultCounts result (H.faults host.old) (H.faults host.new) }
 {
     read_all(alloc, host)
 }
 
-#[tactic(auto, using(crate::proofs::FromHost::few_given))]
+#[tactic(auto, using(crate::proofs::FromHost::few_given, crate::proofs::FromHost::entries_given))]
 fn read_all<H: Host>(alloc: Global, host: &mut H) -> Result<Vec<Entry>, TraceStop>
     ensures exact { WhereTold (λ before after. Gives result before.left) (H.content host.old) (H.content host.new) }
     ensures end { OnOk result (WhereTold (λ before after. after.left ≡ []) (H.content host.old) (H.content host.new)) }
     ensures few { IfOk result (λ entries. length entries.items ≤ most) }
+    ensures entries { IfOk result (λ entries. All IsEntry entries.items) }
     ensures same { WhereTold (λ before after. after.texts ≡ before.texts) (H.content host.old) (H.content host.new) }
     ensures faults { FaultCounts result (H.faults host.old) (H.faults host.new) }
 {
