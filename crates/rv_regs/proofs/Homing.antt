@@ -1,21 +1,21 @@
 -- Homes that are placed are homes as code needs them.
-use Rattle.std.proofs.Common.{◌≡◌, ◌≢◌, ℕ, zero, suc, ◌+◌, ◌<◌, Bool, true, false, not, ◌&&◌, ◌||◌, nat_lt, List, [], ◌∷◌, length, get_or, Some, refl, sym, ap, ◌∙◌, subst, arith, inl, inr, ◌⊎◌}
+use Rattle.std.proofs.Common.{◌≡◌, ◌≢◌, ℕ, zero, suc, ◌+◌, ◌<◌, Bool, true, ◌&&◌, nat_lt, List, [], ◌∷◌, length, get_or, Some, refl, sym, ap, ◌∙◌, subst, arith, inl, inr, ◌⊎◌}
 use Rattle.std.specs.Prelude.{slice_get, Contains}
 use Rattle.std.proofs.lemmas.Bool.{false≢true}
 use Rattle.std.proofs.lemmas.Option.{slice_get_within}
 use Rattle.al_ir.specs.declared.ir.Function.{Function}
 use Rattle.al_ir.specs.declared.ir.Operation.{Operation}
 use Rattle.al_ir.specs.declared.ir.Ir.{Ir}
-use Rattle.al_ir.specs.declared.op.Op.{Op}
 use Rattle.al_ir.specs.Control.{operation_at, function_at, arguments_of, code_of}
 use Rattle.rv_code.specs.Homes.{Apart}
 use Rattle.rv_code.specs.declared.home.Home.{Home}
 use Rattle.rv_code.specs.declared.home.Home.TheVariants.{Frame, Saved}
 use Rattle.rv_regs.specs.Homes.{IsHomeOf, AreHomes, home_at}
 use Rattle.rv_regs.specs.Uses.{IsIn, reads, writes, surely_writes, in_frame, comes_next, calls}
-use Rattle.rv_regs.specs.Marks.{marked, any_marked, agrees, busy_of, is_in, named_reads, named_writes, may_find, is_call, is_sure}
+use Rattle.rv_regs.specs.Marks.{marked, any_marked, agrees, busy_of}
 use Rattle.rv_regs.specs.Placed.{ArePlaced}
-use Rattle.rv_regs.proofs.Marking.{agrees_at, any_at, busy_where_live, busy_at_first, busy_behind, left_of_and, right_of_and, is_not}
+use Rattle.rv_regs.proofs.Marking.{agrees_at, any_at, busy_where_live, busy_at_first, busy_behind, left_of_and, right_of_and}
+use Rattle.rv_regs.proofs.Saying.{Says, says}
 use Rattle.rv_regs.proofs.Naming.{is_in_is, is_in_back, is_found, is_read, is_written, is_surely, is_calling, only_next, lt_is, is_lt}
 
 -- live before an operation: what stands in the frame always is
@@ -26,41 +26,6 @@ live_of (Saved r) count marks pc = nat_lt pc count && marked marks pc
 home_cases : (t : ℕ) (h : Home) → IsHomeOf t h → (h ≡ Frame t) ⊎ ((r : ℕ) × (h ≡ Saved r))
 home_cases t (Frame k) own = inl (ap Frame own)
 home_cases t (Saved r) own = inr (r, refl)
-
-either_is : (a b : Bool) → (a || not b) ≡ true → b ≡ true → a ≡ true
-either_is true b e is = refl
-either_is false b e is = absurd (false≢true (sym (is_not b e) ∙ is))
-
-not_both : (a b : Bool) → not (a && b) ≡ true → a ≡ true → b ≡ true → ⊥
-not_both a b e x y = false≢true (sym (is_not (a && b) e) ∙ rw x y)
-
--- what an operation says of a slot in a register
-record Says (ir : Ir) (slot : ℕ) (live : List Bool) (pc : ℕ) (o : Op) : Type 0 where
-  by_name : may_find ir o slot ≡ true → ⊥
-  read : is_in slot (named_reads ir o) ≡ true → marked live pc ≡ true
-  kept : any_marked live (comes_next pc o) ≡ true → ((is_sure o && is_in slot (named_writes ir o)) ≡ true) ⊎ (marked live pc ≡ true)
-  quiet : any_marked live (comes_next pc o) ≡ true → is_call o ≡ true → ⊥
-
-kept_is : (now next wrote : Bool) → (now || (not next || wrote)) ≡ true → next ≡ true → (wrote ≡ true) ⊎ (now ≡ true)
-kept_is true next wrote e n = inr refl
-kept_is false true wrote e n = inl e
-kept_is false false wrote e n = absurd (false≢true n)
-
-says : (ir : Ir) (slot : ℕ) (live : List Bool) (pc : ℕ) (o : Op) → agrees ir slot live pc o ≡ true → Says ir slot live pc o
-says ir slot live pc o e =
-    let now = marked live pc in
-    let next = any_marked live (comes_next pc o) in
-    let reading = now || not (is_in slot (named_reads ir o)) in
-    let keeping = now || (not next || (is_sure o && is_in slot (named_writes ir o))) in
-    let quieting = not (next && is_call o) in
-    let rest = right_of_and (not (may_find ir o slot)) (reading && (keeping && quieting)) e in
-    let more = right_of_and reading (keeping && quieting) rest in
-    record {
-      by_name = λ found. false≢true (sym (is_not (may_find ir o slot) (left_of_and (not (may_find ir o slot)) (reading && (keeping && quieting)) e)) ∙ found);
-      read = λ is. either_is now (is_in slot (named_reads ir o)) (left_of_and reading (keeping && quieting) rest) is;
-      kept = λ is. kept_is now next (is_sure o && is_in slot (named_writes ir o)) (left_of_and keeping quieting more) is;
-      quiet = λ is call. not_both next (is_call o) (right_of_and keeping quieting more) is call;
-    }
 
 first_of_one : (next only k : ℕ) → k < 1 → get_or (only ∷ []) k next ≡ next → next ≡ only
 first_of_one next only zero less is = sym is

@@ -1,5 +1,5 @@
 -- What is found out of one slot before it gets a register: marks at the operations before which it is live.
-use Rattle.std.specs.Prelude.{◌≡◌, ℕ, ◌+◌, nat_le, nat_lt, Bool, true, false, not, ◌&&◌, ◌||◌, List, [], ◌∷◌, Some, None, slice_index_or}
+use Rattle.std.specs.Prelude.{◌≡◌, ℕ, ◌+◌, nat_le, nat_lt, Bool, true, false, not, if◌then◌else◌, ◌&&◌, ◌||◌, List, [], ◌∷◌, Some, None, slice_get, slice_index_or}
 use Rattle.al_ir.specs.declared.ir.Operation.{Operation}
 use Rattle.al_ir.specs.declared.ir.Function.{Function}
 use Rattle.al_ir.specs.declared.ir.Ir.{Ir}
@@ -82,6 +82,29 @@ busy_from ir slot live pc wrote (o ∷ os) = (marked live pc || wrote) ∷ busy_
 -- arguments come to their homes before the first operation
 abbrev pub busy_of : (ir : Ir) (f : Function) (slot : ℕ) (live : List Bool) → List Bool
 busy_of ir f slot live = busy_from ir slot live 0 (nat_lt slot f.arguments) f.code
+
+-- ---- the least marks
+
+-- an operation has a slot live before it, where the slot is live before the marked operations
+abbrev pub demands : (ir : Ir) (slot : ℕ) (live : List Bool) (pc : ℕ) (o : Op) → Bool
+demands ir slot live pc o =
+    is_in slot (named_reads ir o) || (any_marked live (comes_next pc o) && not (is_sure o && is_in slot (named_writes ir o)))
+
+-- each operation that has the slot live before it is marked
+abbrev pub IsSettled : (ir : Ir) (slot : ℕ) (live : List Bool) (code : List Operation) → Type 0
+IsSettled ir slot live code = (pc : ℕ) (o : Operation) → slice_get code pc ≡ Some o → demands ir slot live pc o.op ≡ true → marked live pc ≡ true
+
+abbrev pub IsWithin : (a b : List Bool) → Type 0
+IsWithin a b = (pc : ℕ) → marked a pc ≡ true → marked b pc ≡ true
+
+-- no marks with which all operations agree are fewer
+abbrev pub IsLeast : (ir : Ir) (slot : ℕ) (live : List Bool) (code : List Operation) → Type 0
+IsLeast ir slot live code = (given : List Bool) → all_agree ir slot given 0 code ≡ true → IsWithin live given
+
+-- how many operations are not marked
+abbrev pub unmarked : List Bool → ℕ
+unmarked [] = 0
+unmarked (b ∷ bs) = (if b then 0 else 1) + unmarked bs
 
 -- ---- two lists of marks
 

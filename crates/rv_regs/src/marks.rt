@@ -2,7 +2,8 @@
 
 ghost use Rattle.std.specs.Prelude.{◌≡◌, ◌≤◌, ◌<◌, true, length, IfOk};
 ghost use Rattle.rv_regs.specs.Uses.{comes_next};
-ghost use Rattle.rv_regs.specs.Marks.{marked, any_marked, agrees, all_agree, busy_from, busy_of, are_clear, IsJoin};
+ghost use Rattle.rv_regs.specs.Marks.{marked, any_marked, agrees, all_agree, busy_from, busy_of, are_clear, IsJoin, demands, IsSettled, IsLeast};
+ghost use Rattle.rv_regs.specs.Widening.{Marks, Widens, AreNone};
 
 use crate::uses::{is_call, is_sure, may_find, reads, writes};
 use al_base::NoMemory;
@@ -69,41 +70,68 @@ pub fn all_agree(ir: &Ir, slot: u32, live: &[bool], code: &[Operation]) -> bool
     true
 }
 
+/// Whether a slot is live before an operation, by what stands there and is marked behind it.
+fn demands(ir: &Ir, slot: u32, live: &[bool], pc: usize, op: &Op) -> bool
+    requires { pc < 65536 }
+    ensures { result ≡ demands ir.now slot live.now pc op.now }
+{
+    reads(ir, op, slot) || (goes_on_marked(live, op, pc) && !(is_sure(op) && writes(ir, op, slot)))
+}
+
+/// Marks an operation that was not marked and has the slot live before it; whether it was such.
+fn mark(ir: &Ir, slot: u32, live: &mut Items<bool>, pc: usize, op: &Op) -> bool
+    requires pc { pc < 65536 }
+    requires within { pc < length live.old }
+    ensures { Marks ir.now slot live.old pc op.now result live.new }
+{
+    let marks = live.as_slice();
+    let wanted = !marked(marks, pc) && demands(ir, slot, marks, pc, op);
+    if wanted {
+        live.set(pc, true);
+    }
+    wanted
+}
+
 /// Marks operations before which a slot is live, from the last one to the first; whether one was not marked before.
-fn widen(ir: &Ir, slot: u32, live: &mut [bool], code: &[Operation]) -> bool
-    requires { length code.now ≤ 65536 }
+fn widen(ir: &Ir, slot: u32, live: &mut Items<bool>, code: &[Operation]) -> bool
+    requires code { length code.now ≤ 65536 }
+    requires live { length live.old ≡ length code.now }
+    ensures { Widens ir.now slot code.now live.old result live.new }
 {
     let mut changed = false;
     let count = code.len();
     for behind in 0..count {
         let pc = count - 1 - behind;
-        let op = &code[pc].op;
-        if pc < live.len()
-            && !live[pc]
-            && (reads(ir, op, slot)
-                || (goes_on_marked(live, op, pc) && !(is_sure(op) && writes(ir, op, slot))))
-        {
-            live[pc] = true;
+        if mark(ir, slot, live, pc, &code[pc].op) {
             changed = true;
         }
     }
     changed
 }
 
-/// Marks operations before which a slot is live. What comes out is looked at before anything rests on it.
-pub fn live(alloc: Global, ir: &Ir, slot: u32, code: &[Operation]) -> Result<Items<bool>, NoMemory>
-    requires { length code.now ≤ 65536 }
+/// No marks.
+fn no_marks(alloc: Global, count: usize) -> Result<Items<bool>, NoMemory>
+    ensures { IfOk result (λ live. AreNone count live) }
 {
-    let mut live = Vec::new(alloc);
-    for _ in 0..code.len() {
+    let mut live = Items::new(alloc);
+    for _ in 0..count {
         live.push(false)?;
     }
-    for _ in 0..code.len() {
-        if !widen(ir, slot, live.as_mut_slice(), code) {
-            break;
-        }
+    Ok(live)
+}
+
+/// The operations before which a slot is live.
+pub fn live(alloc: Global, ir: &Ir, slot: u32, code: &[Operation]) -> Result<Items<bool>, NoMemory>
+    requires { length code.now ≤ 65536 }
+    ensures settled { IfOk result (λ live. IsSettled ir.now slot live code.now) }
+    ensures least { IfOk result (λ live. IsLeast ir.now slot live code.now) }
+{
+    let mut live = no_marks(alloc, code.len())?;
+    let mut going = true;
+    while going {
+        going = widen(ir, slot, &mut live, code);
     }
-    Ok(Items::from_vec(live))
+    Ok(live)
 }
 
 /// The operations before which the register of a slot is busy.

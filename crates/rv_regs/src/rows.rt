@@ -2,7 +2,7 @@
 
 ghost use Rattle.std.specs.Prelude.{◌≡◌, ◌<◌, true, length, IfOk, MatchOption};
 ghost use Rattle.rv_regs.specs.Marks.{are_clear, marked};
-ghost use Rattle.rv_regs.specs.Rows.{row, Takes, AreEmpty};
+ghost use Rattle.rv_regs.specs.Rows.{row, Takes, AreEmpty, AreTaken};
 
 use crate::marks::{are_clear, joined};
 use al_base::NoMemory;
@@ -27,7 +27,7 @@ pub fn no_rows(alloc: Global) -> Result<Items<Items<bool>>, NoMemory>
 
 /// The first row that is free wherever it would be busy.
 fn free_row(taken: &[Items<bool>], busy: &[bool]) -> Option<usize>
-    ensures within { MatchOption result (Unit {0}) (λ k. k < length taken.now) }
+    ensures within { MatchOption result (AreTaken taken.now busy.now) (λ k. k < length taken.now) }
     ensures clear { MatchOption result (Unit {0}) (λ k. are_clear (row taken.now k) 0 busy.now ≡ true) }
 {
     for k in 0..taken.len() {
@@ -45,7 +45,7 @@ pub fn take_row(
     busy: &[bool],
 ) -> Result<Option<u8>, NoMemory>
     requires { length taken.old ≡ 10 }
-    ensures { IfOk result (λ r. MatchOption r (taken.new ≡ taken.old) (λ k. Takes k busy.now taken.old taken.new)) }
+    ensures { IfOk result (λ r. MatchOption r ((taken.new ≡ taken.old) × AreTaken taken.old busy.now) (λ k. Takes k busy.now taken.old taken.new)) }
 {
     match free_row(taken.as_slice(), busy) {
         Some(k) => {
