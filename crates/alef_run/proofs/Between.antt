@@ -15,9 +15,9 @@ use Rattle.al_core.specs.Opening.{globals_of}
 use Rattle.al_core.specs.History.{History, opening, run_of, over_of, line_of, output_of, work_of, away}
 use Rattle.al_rounds.specs.Later.{IsMerged, PutsOutMore}
 use Rattle.al_rounds.proofs.Output.{puts_out_more}
-use Rattle.alef_run.specs.Outside.{GetsAll, GetsPart}
+use Rattle.alef_texts.specs.Outside.{GetsAll, GetsPart}
 use Rattle.alef_run.specs.Rounds.{history_along, IsLegal, IsOver, round_length, first_rounds, GetsRounds, IsWholeRound}
-use Rattle.alef_run.proofs.Told.{told_as, told_then, told_at_once, take-add}
+use Rattle.alef_texts.proofs.Told.{told_as, told_then, told_at_once, take-add}
 
 -- ---- what a history has is told by its image, region and entries
 
@@ -231,13 +231,12 @@ module _ (image : Contents) (workers region limit made quota : ℕ) (h h' : Hist
     spent_next got' faults_later live full w calm =
         subst (EndsSo Spent got' faults_later) (sym entries_same) (spent (sym over_same ∙ live) full, all_written got' w, calm ∙ B.calm)
 
-    module _ (done : IsSome (over_of h') ⊎ (length h'.entries ≡ quota)) (live : over_of next ≡ None) where
-      full_round : length h'.entries ≡ quota
-      full_round = unless_over (sym over_same ∙ live) done
+    pub full_round : IsSome (over_of h') ⊎ (length h'.entries ≡ quota) → over_of next ≡ None → length h'.entries ≡ quota
+    full_round done live = unless_over (sym over_same ∙ live) done
 
+    module _ (full : length h'.entries ≡ quota) where
       pub smaller : limit - length next.entries < limit - length h.entries
       smaller =
-          let full = full_round in
           let same = ap length entries_same in
           let less = B.less in
           let made_is = B.made_is in
@@ -247,7 +246,6 @@ module _ (image : Contents) (workers region limit made quota : ℕ) (h h' : Hist
       pub between_next : (made' : ℕ) (got' : Option (List ℕ)) (faults_later : ℕ) → made' ≡ length h'.entries → away h' ≡ 0 → made' ≢ limit
           → WhereTold (GetsAll (drop h'.dropped (output_of h'))) got got' → faults_later ≡ faults_after → Between image workers region limit next made' before got' faults faults_later
       between_next made' got' faults_later made_is here unspent w calm =
-          let full = full_round in
           let count = B.count in
           let before_is = B.made_is in
           let most = legal.most in

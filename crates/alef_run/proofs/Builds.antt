@@ -8,13 +8,13 @@ use Rattle.al_front.specs.Accepted.{IsRefused}
 use Rattle.al_front.specs.declared.refused.Refused.{Refused as Reason}
 use Rattle.al_front.proofs.Laws.{never_both}
 use Rattle.alef_run.specs.BuildMode.{DidBuild, BuiltText, EndsBuild, EndsWrite}
-use Rattle.alef_run.specs.Call.{Call, DidNothing, LacksText, text_in}
-use Rattle.alef_run.specs.CheckMode.{HasProgram}
+use Rattle.alef_texts.specs.Call.{Call, DidNothing, LacksText, text_in}
+use Rattle.alef_texts.specs.CheckMode.{HasProgram}
 use Rattle.alef_run.specs.Compiling.{IsImageOf, LacksProgram}
-use Rattle.alef_run.specs.Outside.{GetsAll, GetsPart}
-use Rattle.alef_run.specs.declared.report.End.{End}
-use Rattle.alef_run.specs.declared.report.End.TheVariants.{Ran, Made, Words, ReadFault, Refused, BadImage, BadSchedule, BadEntry, BadNumber, WriteFault, NoMemory}
-use Rattle.alef_run.proofs.Told.{neither, not_missing}
+use Rattle.alef_texts.specs.Outside.{GetsAll, GetsPart}
+use Rattle.alef_texts.specs.declared.report.End.{End}
+use Rattle.alef_texts.specs.declared.report.End.TheVariants.{Ran, Made, Words, ReadFault, Refused, BadImage, BadSchedule, BadEntry, BadNumber, WriteFault, NoMemory}
+use Rattle.alef_texts.proofs.Told.{neither, not_missing}
 
 module _ (file : List ℕ) (call : Call) where
   -- ---- stages

@@ -19,24 +19,30 @@ use Rattle.al_meaning.specs.Meaning.{run}
 use Rattle.al_show.specs.Walks.{IsRefused as IsEntryRefused}
 use Rattle.al_front.specs.Accepted.{IsAccepted, IsRefused}
 use Rattle.al_front.specs.declared.refused.Refused.{Refused as Reason}
-use Rattle.alef_run.specs.Call.{Call, LacksText, text_in}
+use Rattle.alef_texts.specs.Call.{Call, LacksText, text_in}
 use Rattle.alef_run.specs.BuildMode.{EndsBuild}
+use Rattle.alef_run.specs.RecordMode.{EndsRecord}
+use Rattle.alef_run.specs.ReplayMode.{EndsReplay}
 use Rattle.alef_run.specs.RunMode.{EndsRun}
+use Rattle.alef_run.specs.SampleMode.{EndsSample}
 use Rattle.alef_run.specs.ExecMode.{EndsExec, RanImage}
-use Rattle.alef_run.specs.CheckMode.{HasProgram, EndsCheck}
-use Rattle.alef_run.specs.Load.{IsBadSchedule}
+use Rattle.alef_texts.specs.CheckMode.{HasProgram, EndsCheck}
+use Rattle.alef_texts.specs.Load.{IsBadSchedule}
 use Rattle.alef_run.specs.Meant.{EndsAsMeant}
-use Rattle.alef_run.specs.StepMode.{EndsStep, bytes_of_region, first_of}
-use Rattle.alef_run.specs.declared.report.ScheduleFault.{ScheduleFault}
+use Rattle.alef_texts.specs.StepMode.{EndsStep, bytes_of_region, first_of}
+use Rattle.alef_texts.specs.declared.report.ScheduleFault.{ScheduleFault}
 use Rattle.alef_run.specs.Modes.{EndsIdle, EndsIn, EndsBy, is_built, built}
-use Rattle.alef_run.specs.declared.report.End.{End}
-use Rattle.alef_run.specs.declared.report.End.TheVariants.{Ran, Made, Words, ReadFault, Refused, BadImage, BadSchedule, BadEntry, BadNumber, WriteFault, NoMemory}
+use Rattle.alef_texts.specs.declared.report.End.{End}
+use Rattle.alef_texts.specs.declared.report.End.TheVariants.{Ran, Made, Words, ReadFault, Refused, BadImage, BadSchedule, BadEntry, BadNumber, WriteFault, NoMemory}
 use Rattle.alef_run.proofs.Builds.{missing_build, host_build, out_build, refused_build, complete_build}
-use Rattle.alef_run.proofs.Checks.{missing_check, host_check, out_check, complete_check, refused_check}
+use Rattle.alef_texts.proofs.Checks.{missing_check, host_check, out_check, complete_check, refused_check}
 use Rattle.alef_run.proofs.Meanings.{run_as_meant}
+use Rattle.alef_run.proofs.Records.{missing_record, host_record, out_record}
+use Rattle.alef_run.proofs.Replays.{missing_replay, host_replay, out_replay}
+use Rattle.alef_run.proofs.Samples.{host_sample, out_sample}
 use Rattle.alef_run.proofs.Runs.{missing_run, host_run, out_run, refused_run, complete_run}
-use Rattle.alef_run.proofs.Steps.{missing_step, host_step, out_step, refused_step, missing_schedule_step, bad_schedule_step, bad_number_step, bad_entry_step, complete_step}
-use Rattle.alef_run.proofs.Told.{neither, not_missing}
+use Rattle.alef_texts.proofs.Steps.{missing_step, host_step, out_step, refused_step, missing_schedule_step, bad_schedule_step, bad_number_step, bad_entry_step, complete_step}
+use Rattle.alef_texts.proofs.Told.{neither, not_missing}
 
 -- ---- the job of the words
 
@@ -59,21 +65,24 @@ job_built (Some j) job e = on (is_built j.mode) refl e
 
 module _ (call : Call) where
   -- what follows from each way to end follows from the end
-  by_mode : (A : Type 0) (end : End) (mode : Mode) (job : Job) → (EndsIdle call end → A) → (EndsRun job call end → A) → (EndsBuild job.file call end → A) → (EndsExec job call end → A) → (EndsCheck job.file call end → A) → (EndsStep job call end → A) → EndsIn mode job call end → A
-  by_mode A end Run job idle run build exec check step e = run e
-  by_mode A end Exec job idle run build exec check step e = exec e
-  by_mode A end Check job idle run build exec check step e = check e
-  by_mode A end Replay job idle run build exec check step e = idle e
-  by_mode A end Recorded job idle run build exec check step e = idle e
-  by_mode A end Build job idle run build exec check step e = build e
-  by_mode A end Sample job idle run build exec check step e = idle e
-  by_mode A end Race job idle run build exec check step e = idle e
-  by_mode A end Step job idle run build exec check step e = step e
-  by_mode A end Link job idle run build exec check step e = idle e
+  by_mode : (A : Type 0) (end : End) (mode : Mode) (job : Job) → (EndsIdle call end → A) → (EndsRun job call end → A) → (EndsBuild job.file call end → A) → (EndsExec job call end → A) → (EndsCheck job.file call end → A) → (EndsStep job call end → A)
+      → (EndsReplay job call end → A) → (EndsRecord job call end → A) → (EndsSample job call end → A) → EndsIn mode job call end → A
+  by_mode A end Run job idle run build exec check step replay rec sample e = run e
+  by_mode A end Exec job idle run build exec check step replay rec sample e = exec e
+  by_mode A end Check job idle run build exec check step replay rec sample e = check e
+  by_mode A end Replay job idle run build exec check step replay rec sample e = replay e
+  by_mode A end Recorded job idle run build exec check step replay rec sample e = rec e
+  by_mode A end Build job idle run build exec check step replay rec sample e = build e
+  by_mode A end Sample job idle run build exec check step replay rec sample e = sample e
+  by_mode A end Race job idle run build exec check step replay rec sample e = idle e
+  by_mode A end Step job idle run build exec check step replay rec sample e = step e
+  by_mode A end Link job idle run build exec check step replay rec sample e = idle e
 
-  by_job : (A : Type 0) (end : End) (o : Option Job) → (EndsIdle call end → A) → ((job : Job) → EndsRun job call end → A) → ((job : Job) → EndsBuild job.file call end → A) → ((job : Job) → EndsExec job call end → A) → ((job : Job) → EndsCheck job.file call end → A) → ((job : Job) → EndsStep job call end → A) → EndsBy o call end → A
-  by_job A end None idle run build exec check step e = idle e
-  by_job A end (Some job) idle run build exec check step e = by_mode A end job.mode job idle (run job) (build job) (exec job) (check job) (step job) e
+  by_job : (A : Type 0) (end : End) (o : Option Job) → (EndsIdle call end → A) → ((job : Job) → EndsRun job call end → A) → ((job : Job) → EndsBuild job.file call end → A) → ((job : Job) → EndsExec job call end → A) → ((job : Job) → EndsCheck job.file call end → A) → ((job : Job) → EndsStep job call end → A)
+      → ((job : Job) → EndsReplay job call end → A) → ((job : Job) → EndsRecord job call end → A) → ((job : Job) → EndsSample job call end → A) → EndsBy o call end → A
+  by_job A end None idle run build exec check step replay rec sample e = idle e
+  by_job A end (Some job) idle run build exec check step replay rec sample e =
+      by_mode A end job.mode job idle (run job) (build job) (exec job) (check job) (step job) (replay job) (rec job) (sample job) e
 
   ends_in : (end : End) (o : Option Job) (job : Job) → EndsBy o call end → built o ≡ Some job → EndsIn job.mode job call end
   ends_in end o job e is = let P : Option Job → Type 0 = λ o. EndsBy o call end in subst P (job_was o job is) e
@@ -90,6 +99,15 @@ module _ (call : Call) where
   pub ends_check : (end : End) (o : Option Job) (job : Job) → EndsBy o call end → built o ≡ Some job → job.mode ≡ Check → EndsCheck job.file call end
   ends_check end o job e is mode = let P : Mode → Type 0 = λ mode. EndsIn mode job call end in subst P mode (ends_in end o job e is)
 
+  pub ends_replay : (end : End) (o : Option Job) (job : Job) → EndsBy o call end → built o ≡ Some job → job.mode ≡ Replay → EndsReplay job call end
+  ends_replay end o job e is mode = let P : Mode → Type 0 = λ mode. EndsIn mode job call end in subst P mode (ends_in end o job e is)
+
+  pub ends_record : (end : End) (o : Option Job) (job : Job) → EndsBy o call end → built o ≡ Some job → job.mode ≡ Recorded → EndsRecord job call end
+  ends_record end o job e is mode = let P : Mode → Type 0 = λ mode. EndsIn mode job call end in subst P mode (ends_in end o job e is)
+
+  pub ends_sample : (end : End) (o : Option Job) (job : Job) → EndsBy o call end → built o ≡ Some job → job.mode ≡ Sample → EndsSample job call end
+  ends_sample end o job e is mode = let P : Mode → Type 0 = λ mode. EndsIn mode job call end in subst P mode (ends_in end o job e is)
+
   pub ends_step : (end : End) (o : Option Job) (job : Job) → EndsBy o call end → built o ≡ Some job → job.mode ≡ Step → EndsStep job call end
   ends_step end o job e is mode = let P : Mode → Type 0 = λ mode. EndsIn mode job call end in subst P mode (ends_in end o job e is)
 
@@ -99,10 +117,10 @@ module _ (call : Call) where
   words_in end Run job e is = absurd (let P : End → Type 0 = EndsRun job call in subst P is e)
   words_in end Exec job e is = absurd (let P : End → Type 0 = EndsExec job call in subst P is e)
   words_in end Check job e is = absurd (let P : End → Type 0 = EndsCheck job.file call in subst P is e)
-  words_in end Replay job e is = refl
-  words_in end Recorded job e is = refl
+  words_in end Replay job e is = absurd (let P : End → Type 0 = EndsReplay job call in subst P is e)
+  words_in end Recorded job e is = absurd (let P : End → Type 0 = EndsRecord job call in subst P is e)
   words_in end Build job e is = absurd (let P : End → Type 0 = EndsBuild job.file call in subst P is e)
-  words_in end Sample job e is = refl
+  words_in end Sample job e is = absurd (let P : End → Type 0 = EndsSample job call in subst P is e)
   words_in end Race job e is = refl
   words_in end Step job e is = absurd (let P : End → Type 0 = EndsStep job call in subst P is e)
   words_in end Link job e is = refl
@@ -115,10 +133,10 @@ module _ (call : Call) where
   idle_in end Run job e is = absurd (cc)
   idle_in end Exec job e is = absurd (cc)
   idle_in end Check job e is = absurd (cc)
-  idle_in end Replay job e is = e.0
-  idle_in end Recorded job e is = e.0
+  idle_in end Replay job e is = absurd (cc)
+  idle_in end Recorded job e is = absurd (cc)
   idle_in end Build job e is = absurd (cc)
-  idle_in end Sample job e is = e.0
+  idle_in end Sample job e is = absurd (cc)
   idle_in end Race job e is = e.0
   idle_in end Step job e is = absurd (cc)
   idle_in end Link job e is = e.0
@@ -142,20 +160,20 @@ module _ (call : Call) where
   missing_exec job (BadNumber count) e m = absurd e
   missing_exec job (Refused reason) e m = absurd e
 
-  missing_in : (end : End) (mode : Mode) (job : Job) → is_built mode ≡ true → EndsIn mode job call end → LacksText call.told job.file → (end ≡ ReadFault) ⊎ (end ≡ NoMemory)
-  missing_in end Run job is e m = missing_run job call end e m
-  missing_in end Exec job is e m = missing_exec job end e m
-  missing_in end Check job is e m = missing_check job.file call end e m
-  missing_in end Replay job is e m = absurd (cc)
-  missing_in end Recorded job is e m = absurd (cc)
-  missing_in end Build job is e m = missing_build job.file call end e m
-  missing_in end Sample job is e m = absurd (cc)
-  missing_in end Race job is e m = absurd (cc)
-  missing_in end Step job is e m = missing_step job call end e m
-  missing_in end Link job is e m = absurd (cc)
+  missing_in : (end : End) (mode : Mode) (job : Job) → is_built mode ≡ true → (mode ≡ Sample → ⊥) → EndsIn mode job call end → LacksText call.told job.file → (end ≡ ReadFault) ⊎ (end ≡ NoMemory)
+  missing_in end Run job is not e m = missing_run job call end e m
+  missing_in end Exec job is not e m = missing_exec job end e m
+  missing_in end Check job is not e m = missing_check job.file call end e m
+  missing_in end Replay job is not e m = missing_replay job call end e m
+  missing_in end Recorded job is not e m = missing_record job call end e m
+  missing_in end Build job is not e m = missing_build job.file call end e m
+  missing_in end Sample job is not e m = absurd (not refl)
+  missing_in end Race job is not e m = absurd (cc)
+  missing_in end Step job is not e m = missing_step job call end e m
+  missing_in end Link job is not e m = absurd (cc)
 
-  pub missing_end : (end : End) (o : Option Job) (job : Job) → EndsBy o call end → built o ≡ Some job → LacksText call.told job.file → (end ≡ ReadFault) ⊎ (end ≡ NoMemory)
-  missing_end end o job e is m = missing_in end job.mode job (job_built o job is) (ends_in end o job e is) m
+  pub missing_end : (end : End) (o : Option Job) (job : Job) → EndsBy o call end → built o ≡ Some job → (job.mode ≡ Sample → ⊥) → LacksText call.told job.file → (end ≡ ReadFault) ⊎ (end ≡ NoMemory)
+  missing_end end o job e is not m = missing_in end job.mode job (job_built o job is) not (ends_in end o job e is) m
 
   host_exec : (job : Job) (end : End) → EndsExec job call end → call.host_before < call.host_after → end ≡ ReadFault
   host_exec job (Ran over) e rose = let calm = e.1.read.calm in absurd (omega (arith, calm, rose))
@@ -173,7 +191,8 @@ module _ (call : Call) where
   pub host_end : (end : End) (o : Option Job) → EndsBy o call end → call.host_before < call.host_after → end ≡ ReadFault
   host_end end o e rose =
       by_job (end ≡ ReadFault) end o (λ i. let calm = i.1.calm in absurd (omega (arith, calm, rose))) (λ job r. host_run job call end r rose) (λ job b. host_build job.file call end b rose) (λ job x. host_exec job end x rose)
-      (λ job k. host_check job.file call end k rose) (λ job s. host_step job call end s rose) e
+      (λ job k. host_check job.file call end k rose) (λ job s. host_step job call end s rose) (λ job r. host_replay job call end r rose) (λ job r. host_record job call end r rose)
+      (λ job s. host_sample job call end s rose) e
 
   out_exec : (job : Job) (end : End) → EndsExec job call end → call.out_before < call.out_after → end ≡ WriteFault
   out_exec job (Ran over) e rose = let calm = e.1.run.ran.2 in absurd (omega (arith, calm, rose))
@@ -191,7 +210,8 @@ module _ (call : Call) where
   pub out_end : (end : End) (o : Option Job) → EndsBy o call end → call.out_before < call.out_after → end ≡ WriteFault
   out_end end o e rose =
       by_job (end ≡ WriteFault) end o (λ i. let calm = i.2.calm in absurd (omega (arith, calm, rose))) (λ job r. out_run job call end r rose) (λ job b. out_build job.file call end b rose) (λ job x. out_exec job end x rose)
-      (λ job k. out_check job.file call end k rose) (λ job s. out_step job call end s rose) e
+      (λ job k. out_check job.file call end k rose) (λ job s. out_step job call end s rose) (λ job r. out_replay job call end r rose) (λ job r. out_record job call end r rose)
+      (λ job s. out_sample job call end s rose) e
 
   -- ---- texts and images
 
@@ -272,10 +292,10 @@ module _ (call : Call) where
       on Run is = absurd (cc)
       on Exec is = absurd (cc)
       on Check is = absurd (cc)
-      on Replay is = i
-      on Recorded is = i
+      on Replay is = absurd (cc)
+      on Recorded is = absurd (cc)
       on Build is = absurd (cc)
-      on Sample is = i
+      on Sample is = absurd (cc)
       on Race is = i
       on Step is = absurd (cc)
       on Link is = i
@@ -289,10 +309,10 @@ module _ (call : Call) where
       on Run = (i.1.calm, inl i.2)
       on Exec = (i.1.calm, inl i.2)
       on Check = (i.1.calm, i.2)
-      on Replay = i
-      on Recorded = i
+      on Replay = (i.1.calm, inl i.2)
+      on Recorded = ((i.1.calm, inl (record { schedule = i.2.schedule; work = i.2.work; image = i.2.image; got = refl; calm = refl })), record { got = i.2.got; calm = i.2.calm })
       on Build = (i.1.calm, i.2)
-      on Sample = i
+      on Sample = (inl i.2, i.1)
       on Race = i
       on Step = (i.1.calm, i.2)
       on Link = i
@@ -301,20 +321,30 @@ module _ (call : Call) where
   mode_end end o job is e = let P : Option Job → Type 0 = λ o. EndsBy o call end in subst P (sym is) e
 
   -- the modes that are yet to come
-  pub rest_in : (end : End) (mode : Mode) (job : Job) → (mode ≡ Run → ⊥) → (mode ≡ Build → ⊥) → (mode ≡ Exec → ⊥) → (mode ≡ Check → ⊥) → (mode ≡ Step → ⊥) → EndsIdle call end → EndsIn mode job call end
-  rest_in end Run job a b c d e i = absurd (a refl)
-  rest_in end Build job a b c d e i = absurd (b refl)
-  rest_in end Exec job a b c d e i = absurd (c refl)
-  rest_in end Check job a b c d e i = absurd (d refl)
-  rest_in end Replay job a b c d e i = i
-  rest_in end Recorded job a b c d e i = i
-  rest_in end Sample job a b c d e i = i
-  rest_in end Race job a b c d e i = i
-  rest_in end Step job a b c d e i = absurd (e refl)
-  rest_in end Link job a b c d e i = i
+  pub rest_in : (end : End) (mode : Mode) (job : Job) → (mode ≡ Run → ⊥) → (mode ≡ Replay → ⊥) → (mode ≡ Recorded → ⊥) → (mode ≡ Sample → ⊥) → (mode ≡ Build → ⊥) → (mode ≡ Exec → ⊥) → (mode ≡ Check → ⊥) → (mode ≡ Step → ⊥)
+      → EndsIdle call end → EndsIn mode job call end
+  rest_in end Run job run replay rec sample build exec check step i = absurd (run refl)
+  rest_in end Replay job run replay rec sample build exec check step i = absurd (replay refl)
+  rest_in end Recorded job run replay rec sample build exec check step i = absurd (rec refl)
+  rest_in end Sample job run replay rec sample build exec check step i = absurd (sample refl)
+  rest_in end Build job run replay rec sample build exec check step i = absurd (build refl)
+  rest_in end Exec job run replay rec sample build exec check step i = absurd (exec refl)
+  rest_in end Check job run replay rec sample build exec check step i = absurd (check refl)
+  rest_in end Step job run replay rec sample build exec check step i = absurd (step refl)
+  rest_in end Race job run replay rec sample build exec check step i = i
+  rest_in end Link job run replay rec sample build exec check step i = i
 
   pub run_end : (end : End) (o : Option Job) (job : Job) → o ≡ Some job → job.mode ≡ Run → EndsRun job call end → EndsBy o call end
   run_end end o job is mode e = let M : Mode → Type 0 = λ mode. EndsIn mode job call end in mode_end end o job is (subst M (sym mode) e)
+
+  pub replay_end : (end : End) (o : Option Job) (job : Job) → o ≡ Some job → job.mode ≡ Replay → EndsReplay job call end → EndsBy o call end
+  replay_end end o job is mode e = let M : Mode → Type 0 = λ mode. EndsIn mode job call end in mode_end end o job is (subst M (sym mode) e)
+
+  pub record_end : (end : End) (o : Option Job) (job : Job) → o ≡ Some job → job.mode ≡ Recorded → EndsRecord job call end → EndsBy o call end
+  record_end end o job is mode e = let M : Mode → Type 0 = λ mode. EndsIn mode job call end in mode_end end o job is (subst M (sym mode) e)
+
+  pub sample_end : (end : End) (o : Option Job) (job : Job) → o ≡ Some job → job.mode ≡ Sample → EndsSample job call end → EndsBy o call end
+  sample_end end o job is mode e = let M : Mode → Type 0 = λ mode. EndsIn mode job call end in mode_end end o job is (subst M (sym mode) e)
 
   pub build_end : (end : End) (o : Option Job) (job : Job) (file : List ℕ) → o ≡ Some job → job.mode ≡ Build → file ≡ job.file → EndsBuild file call end → EndsBy o call end
   build_end end o job file is mode named e =

@@ -9,14 +9,14 @@ use Rattle.al_front.specs.Accepted.{IsAccepted, IsRefused}
 use Rattle.al_front.specs.declared.refused.Refused.{Refused as Reason}
 use Rattle.al_front.specs.declared.refused.FrontStop.{FrontStop}
 use Rattle.al_front.specs.declared.refused.FrontStop.TheVariants as stop
-use Rattle.rv_meant.specs.Meant.{IsCompilable}
-use Rattle.alef_run.specs.Call.{IsRead, text_in}
-use Rattle.alef_run.specs.CheckMode.{most_of_text}
+use Rattle.al_compile.specs.Meant.{IsCompilable}
+use Rattle.alef_texts.specs.Call.{IsRead, text_in}
+use Rattle.alef_texts.specs.CheckMode.{most_of_text}
 use Rattle.alef_run.specs.Compiling.{Compiles, CompilesProgram, IsCompiled, CompilesText, IsImageOf, LacksProgram}
-use Rattle.alef_run.specs.Load.{LacksBytes}
-use Rattle.alef_run.specs.declared.report.End.{End}
-use Rattle.alef_run.specs.declared.report.End.TheVariants.{Ran, Made, Words, ReadFault, Refused, BadImage, BadSchedule, BadEntry, BadNumber, WriteFault, NoMemory}
-use Rattle.alef_run.proofs.Checks.{accepted_whole, refused_whole}
+use Rattle.alef_texts.specs.Load.{LacksBytes}
+use Rattle.alef_texts.specs.declared.report.End.{End}
+use Rattle.alef_texts.specs.declared.report.End.TheVariants.{Ran, Made, Words, ReadFault, Refused, BadImage, BadSchedule, BadEntry, BadNumber, WriteFault, NoMemory}
+use Rattle.alef_texts.proofs.Checks.{accepted_whole, refused_whole}
 
 -- ---- a text
 

@@ -6,13 +6,13 @@ use Rattle.rv_isa.specs.declared.image.Contents.{Contents}
 use Rattle.rv_image.specs.Spelling.{IsImage}
 use Rattle.rv_image.specs.Front.{enough_of}
 use Rattle.al_core.specs.History.{History, opening, line_of, work_of}
-use Rattle.alef_run.specs.Call.{Call, WasRead, DidNothing, text_in}
-use Rattle.alef_run.specs.Load.{LacksImage}
+use Rattle.alef_texts.specs.Call.{Call, WasRead, DidNothing, text_in}
+use Rattle.alef_texts.specs.Load.{LacksImage}
 use Rattle.alef_run.specs.Rounds.{history_along, IsLegal, RanTo}
 use Rattle.alef_run.specs.ExecMode.{DidRunImage, EndsImage, EndsExec}
 use Rattle.alef_run.specs.Modes.{line_by}
-use Rattle.alef_run.specs.declared.report.End.{End}
-use Rattle.alef_run.specs.declared.report.End.TheVariants.{Ran, Made, Words, ReadFault, Refused, BadImage, BadSchedule, BadEntry, BadNumber, WriteFault, NoMemory}
+use Rattle.alef_texts.specs.declared.report.End.{End}
+use Rattle.alef_texts.specs.declared.report.End.TheVariants.{Ran, Made, Words, ReadFault, Refused, BadImage, BadSchedule, BadEntry, BadNumber, WriteFault, NoMemory}
 use Rattle.alef_run.proofs.Between.{line_along, work_along}
 
 pub lacks_image : (job : Job) (call : Call) (end : End) → LacksImage job.file end call.told call.told_after call.host_before call.host_after → DidNothing call → EndsExec job call end

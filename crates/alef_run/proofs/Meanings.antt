@@ -13,20 +13,20 @@ use Rattle.al_typed.specs.declared.program.Program.{Program}
 use Rattle.al_typed.specs.Measures.{IsWithin}
 use Rattle.al_front.specs.Accepted.{IsAccepted}
 use Rattle.al_front.proofs.Laws.{one_program, never_both}
-use Rattle.rv_meant.specs.Meant.{RunsAlike}
-use Rattle.alef_run.specs.Call.{Call, DidNothing, text_in}
+use Rattle.al_compile.specs.Meant.{RunsAlike}
+use Rattle.alef_texts.specs.Call.{Call, DidNothing, text_in}
 use Rattle.alef_run.specs.ExecMode.{DidRunImage, comes_to}
 use Rattle.alef_run.specs.Meant.{seen_along, IsRunTo, IsOverAs, WroteAsMeant, EndsAsMeant}
 use Rattle.alef_run.specs.Modes.{line_by}
-use Rattle.alef_run.specs.Outside.{GetsAll, GetsPart}
+use Rattle.alef_texts.specs.Outside.{GetsAll, GetsPart}
 use Rattle.alef_run.specs.Rounds.{IsOver, GetsRounds}
 use Rattle.alef_run.specs.RunMode.{DidRun, RanText, EndsRun}
-use Rattle.alef_run.specs.StepMode.{bytes_of_region}
-use Rattle.alef_run.specs.declared.report.End.{End}
-use Rattle.alef_run.specs.declared.report.End.TheVariants.{Ran, Made, Words, ReadFault, Refused, BadImage, BadSchedule, BadEntry, BadNumber, WriteFault, NoMemory}
-use Rattle.alef_run.proofs.Told.{told_as}
+use Rattle.alef_texts.specs.StepMode.{bytes_of_region}
+use Rattle.alef_texts.specs.declared.report.End.{End}
+use Rattle.alef_texts.specs.declared.report.End.TheVariants.{Ran, Made, Words, ReadFault, Refused, BadImage, BadSchedule, BadEntry, BadNumber, WriteFault, NoMemory}
+use Rattle.alef_texts.proofs.Told.{told_as}
 
-some_seen : (h : History) → IsSome (run_of h) → (s : Shared) × (seen_of h ≡ Some s)
+pub some_seen : (h : History) → IsSome (run_of h) → (s : Shared) × (seen_of h ≡ Some s)
 some_seen h = on (run_of h)
   where
     on : (o : Option (World (machine h.image))) → IsSome o → (s : Shared) × (option_map (λ (w : World (machine h.image)). w.shared) o ≡ Some s)
@@ -34,7 +34,7 @@ some_seen h = on (run_of h)
     on None is = absurd (cc)
 
 module _ (p : Program) (job : Job) (image : Contents) (call : Call) (few : job.region ≤ 256) (alike : RunsAlike p image) (s : Shared) (seen : seen_of (comes_to image job call) ≡ Some s) where
-  same : seen_along p (bytes_of_region job) call.schedule ≡ Some s
+  pub same : seen_along p (bytes_of_region job) call.schedule ≡ Some s
   same = alike (bytes_of_region job) call.schedule (omega (arith, few)) ∙ seen
 
   output_is : output_of (comes_to image job call) ≡ s.output
@@ -48,14 +48,14 @@ module _ (p : Program) (job : Job) (image : Contents) (call : Call) (few : job.r
     line = ap (λ (o : Option Contents). line_by (Some job) o call) d.image_is ∙ ap (λ (o : Option Shared). option_map_or (λ (s : Shared). s.line) o 0) seen;
   }
 
-  is_over : (over : Over) → IsOver (comes_to image job call) over → IsOverAs s (length call.schedule) job.entries over
+  pub is_over : (over : Over) → IsOver (comes_to image job call) over → IsOverAs s (length call.schedule) job.entries over
   is_over over (inl is) = inl (sym (ap (option_and_then (λ (s : Shared). s.over)) seen) ∙ is)
   is_over over (inr (spent, none, full)) = inr (spent, sym (ap (option_and_then (λ (s : Shared). s.over)) seen) ∙ none, full)
 
-  all_got : WhereTold (GetsAll (output_of (comes_to image job call))) call.got_before call.got_after → WhereTold (GetsAll s.output) call.got_before call.got_after
+  pub all_got : WhereTold (GetsAll (output_of (comes_to image job call))) call.got_before call.got_after → WhereTold (GetsAll s.output) call.got_before call.got_after
   all_got w = let P : List ℕ → Type 0 = λ out. WhereTold (GetsAll out) call.got_before call.got_after in subst P output_is w
 
-  part_got : WhereTold (GetsRounds (comes_to image job call)) call.got_before call.got_after → WhereTold (GetsPart s.output) call.got_before call.got_after
+  pub part_got : WhereTold (GetsRounds (comes_to image job call)) call.got_before call.got_after → WhereTold (GetsPart s.output) call.got_before call.got_after
   part_got w =
       let P : List ℕ → Type 0 = λ out. WhereTold (GetsPart out) call.got_before call.got_after in
       subst P output_is

@@ -9,14 +9,14 @@ use Rattle.al_typed.specs.declared.program.Program.{Program}
 use Rattle.al_front.specs.Accepted.{IsRefused}
 use Rattle.al_front.specs.declared.refused.Refused.{Refused as Reason}
 use Rattle.al_front.proofs.Laws.{never_both}
-use Rattle.alef_run.specs.Call.{Call, WasRead, DidNothing, HostFails, LacksText, text_in}
-use Rattle.alef_run.specs.CheckMode.{most_of_text, HasProgram}
+use Rattle.alef_texts.specs.Call.{Call, WasRead, DidNothing, HostFails, LacksText, text_in}
+use Rattle.alef_texts.specs.CheckMode.{most_of_text, HasProgram}
 use Rattle.alef_run.specs.Compiling.{IsImageOf, LacksProgram}
 use Rattle.alef_run.specs.ExecMode.{DidRunImage, EndsImage}
 use Rattle.alef_run.specs.RunMode.{DidRun, RanText, EndsRun}
-use Rattle.alef_run.specs.declared.report.End.{End}
-use Rattle.alef_run.specs.declared.report.End.TheVariants.{Ran, Made, Words, ReadFault, Refused, BadImage, BadSchedule, BadEntry, BadNumber, WriteFault, NoMemory}
-use Rattle.alef_run.proofs.Told.{neither, not_missing}
+use Rattle.alef_texts.specs.declared.report.End.{End}
+use Rattle.alef_texts.specs.declared.report.End.TheVariants.{Ran, Made, Words, ReadFault, Refused, BadImage, BadSchedule, BadEntry, BadNumber, WriteFault, NoMemory}
+use Rattle.alef_texts.proofs.Told.{neither, not_missing}
 
 -- ---- stages
 

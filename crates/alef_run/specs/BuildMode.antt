@@ -6,12 +6,12 @@ use Rattle.rv_image.specs.Spelling.{IsImage2}
 use Rattle.rv_image.specs.Reading.{reading}
 use Rattle.al_typed.specs.declared.program.Program.{Program}
 use Rattle.al_front.specs.Accepted.{IsRefused}
-use Rattle.alef_run.specs.Call.{Call, WasRead, DidNothing, HostFails, text_in}
-use Rattle.alef_run.specs.CheckMode.{most_of_text}
+use Rattle.alef_texts.specs.Call.{Call, WasRead, DidNothing, HostFails, text_in}
+use Rattle.alef_texts.specs.CheckMode.{most_of_text}
 use Rattle.alef_run.specs.Compiling.{IsImageOf}
-use Rattle.alef_run.specs.Outside.{GetsAll, GetsPart}
-use Rattle.alef_run.specs.declared.report.End.{End}
-use Rattle.alef_run.specs.declared.report.End.TheVariants.{Ran, Made, Words, ReadFault, Refused, BadImage, BadSchedule, BadEntry, BadNumber, WriteFault, NoMemory}
+use Rattle.alef_texts.specs.Outside.{GetsAll, GetsPart}
+use Rattle.alef_texts.specs.declared.report.End.{End}
+use Rattle.alef_texts.specs.declared.report.End.TheVariants.{Ran, Made, Words, ReadFault, Refused, BadImage, BadSchedule, BadEntry, BadNumber, WriteFault, NoMemory}
 
 -- The text is accepted, within the limits, with this program, which runs like that image. The bytes are the image's, and are read as
 -- that image. Nothing ran.

@@ -7,11 +7,11 @@ use Rattle.al_typed.specs.Measures.{IsWithin}
 use Rattle.al_front.specs.Accepted.{IsAccepted, IsRefused}
 use Rattle.al_front.specs.declared.refused.FrontStop.{FrontStop}
 use Rattle.al_front.specs.declared.refused.FrontStop.TheVariants as front
-use Rattle.rv_meant.specs.Meant.{IsCompilable, RunsAlike}
-use Rattle.alef_run.specs.Call.{IsRead, HostFails, text_in}
-use Rattle.alef_run.specs.CheckMode.{most_of_text}
-use Rattle.alef_run.specs.declared.report.End.{End}
-use Rattle.alef_run.specs.declared.report.End.TheVariants.{Ran, Made, Words, ReadFault, Refused, BadImage, BadSchedule, BadEntry, BadNumber, WriteFault, NoMemory}
+use Rattle.al_compile.specs.Meant.{IsCompilable, RunsAlike}
+use Rattle.alef_texts.specs.Call.{IsRead, HostFails, text_in}
+use Rattle.alef_texts.specs.CheckMode.{most_of_text}
+use Rattle.alef_texts.specs.declared.report.End.{End}
+use Rattle.alef_texts.specs.declared.report.End.TheVariants.{Ran, Made, Words, ReadFault, Refused, BadImage, BadSchedule, BadEntry, BadNumber, WriteFault, NoMemory}
 
 -- what compiling a program gives, which runs alike where the program can be compiled
 abbrev pub CompilesProgram : Program → Result Contents End → Type 0

@@ -6,10 +6,10 @@ use Rattle.rv_image.specs.Spelling.{IsImage}
 use Rattle.rv_image.specs.Reading.{reading}
 use Rattle.rv_image.specs.Front.{enough_of}
 use Rattle.al_core.specs.History.{History, work_of}
-use Rattle.alef_run.specs.Call.{Call, WasRead, DidNothing, HostFails, text_in}
+use Rattle.alef_texts.specs.Call.{Call, WasRead, DidNothing, HostFails, text_in}
 use Rattle.alef_run.specs.Rounds.{history_along, IsLegal, RanTo}
-use Rattle.alef_run.specs.declared.report.End.{End}
-use Rattle.alef_run.specs.declared.report.End.TheVariants.{Ran, Made, Words, ReadFault, Refused, BadImage, BadSchedule, BadEntry, BadNumber, WriteFault, NoMemory}
+use Rattle.alef_texts.specs.declared.report.End.{End}
+use Rattle.alef_texts.specs.declared.report.End.TheVariants.{Ran, Made, Words, ReadFault, Refused, BadImage, BadSchedule, BadEntry, BadNumber, WriteFault, NoMemory}
 
 -- what an image comes to along the schedule of a call
 abbrev pub comes_to : Contents → Job → Call → History

@@ -8,12 +8,12 @@ use Rattle.al_words.specs.declared.job.Job.{Job}
 use Rattle.al_world.specs.World.{Shared, World}
 use Rattle.al_typed.specs.declared.program.Program.{Program}
 use Rattle.al_meaning.specs.Meaning.{source, run}
-use Rattle.alef_run.specs.Call.{Call, DidNothing}
+use Rattle.alef_texts.specs.Call.{Call, DidNothing}
 use Rattle.alef_run.specs.Modes.{line_by}
-use Rattle.alef_run.specs.Outside.{GetsAll, GetsPart}
-use Rattle.alef_run.specs.StepMode.{bytes_of_region}
-use Rattle.alef_run.specs.declared.report.End.{End}
-use Rattle.alef_run.specs.declared.report.End.TheVariants.{Ran, Made, Words, ReadFault, Refused, BadImage, BadSchedule, BadEntry, BadNumber, WriteFault, NoMemory}
+use Rattle.alef_texts.specs.Outside.{GetsAll, GetsPart}
+use Rattle.alef_texts.specs.StepMode.{bytes_of_region}
+use Rattle.alef_texts.specs.declared.report.End.{End}
+use Rattle.alef_texts.specs.declared.report.End.TheVariants.{Ran, Made, Words, ReadFault, Refused, BadImage, BadSchedule, BadEntry, BadNumber, WriteFault, NoMemory}
 
 -- what all can see of the world of a program's meaning after the entries of a schedule, in a region of so many bytes
 abbrev pub seen_along : Program → (region : ℕ) → List Entry → Option Shared

@@ -6,24 +6,27 @@ use Rattle.al_words.specs.declared.job.Mode.TheVariants.{Run, Replay, Recorded, 
 use Rattle.al_words.specs.declared.job.Job.{Job}
 use Rattle.rv_isa.specs.declared.image.Contents.{Contents}
 use Rattle.al_core.specs.History.{line_of}
-use Rattle.alef_run.specs.Call.{Call, IsUnread, DidNothing}
+use Rattle.alef_texts.specs.Call.{Call, IsUnread, DidNothing}
 use Rattle.alef_run.specs.RunMode.{EndsRun}
+use Rattle.alef_run.specs.ReplayMode.{EndsReplay}
+use Rattle.alef_run.specs.RecordMode.{EndsRecord}
 use Rattle.alef_run.specs.BuildMode.{EndsBuild}
 use Rattle.alef_run.specs.ExecMode.{EndsExec, comes_to}
-use Rattle.alef_run.specs.CheckMode.{EndsCheck}
-use Rattle.alef_run.specs.StepMode.{EndsStep}
-use Rattle.alef_run.specs.declared.report.End.{End}
-use Rattle.alef_run.specs.declared.report.End.TheVariants.{Words, NoMemory}
+use Rattle.alef_texts.specs.CheckMode.{EndsCheck}
+use Rattle.alef_run.specs.SampleMode.{EndsSample}
+use Rattle.alef_texts.specs.StepMode.{EndsStep}
+use Rattle.alef_texts.specs.declared.report.End.{End}
+use Rattle.alef_texts.specs.declared.report.End.TheVariants.{Words, NoMemory}
 
 -- the modes that the command does by now
 abbrev pub is_built : Mode → Bool
 is_built Run = true
 is_built Exec = true
 is_built Check = true
-is_built Replay = false
-is_built Recorded = false
+is_built Replay = true
+is_built Recorded = true
 is_built Build = true
-is_built Sample = false
+is_built Sample = true
 is_built Race = false
 is_built Step = true
 is_built Link = false
@@ -44,10 +47,10 @@ abbrev pub EndsIn : Mode → Job → Call → End → Type 0
 EndsIn Run job call end = EndsRun job call end
 EndsIn Exec job call end = EndsExec job call end
 EndsIn Check job call end = EndsCheck job.file call end
-EndsIn Replay job call end = EndsIdle call end
-EndsIn Recorded job call end = EndsIdle call end
+EndsIn Replay job call end = EndsReplay job call end
+EndsIn Recorded job call end = EndsRecord job call end
 EndsIn Build job call end = EndsBuild job.file call end
-EndsIn Sample job call end = EndsIdle call end
+EndsIn Sample job call end = EndsSample job call end
 EndsIn Race job call end = EndsIdle call end
 EndsIn Step job call end = EndsStep job call end
 EndsIn Link job call end = EndsIdle call end

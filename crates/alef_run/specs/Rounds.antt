@@ -6,9 +6,9 @@ use Rattle.al_event.specs.declared.entry.Entry.{Entry}
 use Rattle.al_host.specs.Outside.{Faulted, WhereTold}
 use Rattle.rv_isa.specs.declared.image.Contents.{Contents}
 use Rattle.al_core.specs.History.{History, opening, run_of, over_of, output_of}
-use Rattle.alef_run.specs.Outside.{GetsAll}
-use Rattle.alef_run.specs.declared.report.End.{End}
-use Rattle.alef_run.specs.declared.report.End.TheVariants.{Ran, Made, Words, ReadFault, Refused, BadImage, BadSchedule, BadEntry, BadNumber, WriteFault, NoMemory}
+use Rattle.alef_texts.specs.Outside.{GetsAll}
+use Rattle.alef_texts.specs.declared.report.End.{End}
+use Rattle.alef_texts.specs.declared.report.End.TheVariants.{Ran, Made, Words, ReadFault, Refused, BadImage, BadSchedule, BadEntry, BadNumber, WriteFault, NoMemory}
 
 -- an image along a schedule, under these limits
 abbrev pub history_along : Contents → (region limit : ℕ) → List Entry → History

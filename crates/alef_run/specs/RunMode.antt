@@ -4,12 +4,12 @@ use Rattle.al_words.specs.declared.job.Job.{Job}
 use Rattle.rv_isa.specs.declared.image.Contents.{Contents}
 use Rattle.al_typed.specs.declared.program.Program.{Program}
 use Rattle.al_front.specs.Accepted.{IsRefused}
-use Rattle.alef_run.specs.Call.{Call, WasRead, DidNothing, HostFails, text_in}
-use Rattle.alef_run.specs.CheckMode.{most_of_text}
+use Rattle.alef_texts.specs.Call.{Call, WasRead, DidNothing, HostFails, text_in}
+use Rattle.alef_texts.specs.CheckMode.{most_of_text}
 use Rattle.alef_run.specs.Compiling.{IsImageOf}
 use Rattle.alef_run.specs.ExecMode.{DidRunImage}
-use Rattle.alef_run.specs.declared.report.End.{End}
-use Rattle.alef_run.specs.declared.report.End.TheVariants.{Ran, Made, Words, ReadFault, Refused, BadImage, BadSchedule, BadEntry, BadNumber, WriteFault, NoMemory}
+use Rattle.alef_texts.specs.declared.report.End.{End}
+use Rattle.alef_texts.specs.declared.report.End.TheVariants.{Ran, Made, Words, ReadFault, Refused, BadImage, BadSchedule, BadEntry, BadNumber, WriteFault, NoMemory}
 
 -- The text is accepted, within the limits, with this program, which runs like that image. The image ran.
 pub record DidRun (job : Job) (p : Program) (image : Contents) (call : Call) (end : End) : Type 0 where

@@ -2,14 +2,13 @@
 
 ghost use Rattle.std.specs.Prelude.{◌≡◌, None};
 ghost use Rattle.rv_isa.specs.declared.image.Contents.{Contents};
-ghost use Rattle.alef_run.specs.Status.{status_of};
-ghost use Rattle.alef_run.specs.Call.{call_by};
+ghost use Rattle.alef_texts.specs.Status.{status_of};
+ghost use Rattle.alef_texts.specs.Call.{call_by};
 ghost use Rattle.alef_run.specs.BuildMode.{EndsBuild, EndsWrite};
 
 use crate::compiling::load_program;
-use crate::outside::write_all;
-use crate::report::{End, Report};
 use al_host::{Host, Sink};
+use alef_texts::{End, Report, write_all};
 use rv_image::write;
 use rv_isa::image::Image;
 use std::alloc::Global;

@@ -1,17 +1,16 @@
 //! From a text to its image.
 
-ghost use Rattle.std.specs.Prelude.{◌≡◌, IfOk, IfErr};
+ghost use Rattle.std.specs.Prelude.{◌≡◌, IfOk, IfErr, OnOk};
 ghost use Rattle.al_typed.specs.declared.program.Program.{Program as SpecProgram};
 ghost use Rattle.al_typed.specs.Layout.{IsLaidOut};
+ghost use Rattle.alef_texts.specs.Load.{KeepsTexts};
 ghost use Rattle.alef_run.specs.Compiling.{Compiles, CompilesText, IsImageOf, LacksProgram};
 
-use crate::kept::kept;
-use crate::load::load_text;
-use crate::report::End;
 use al_compile::compile;
 use al_front::{FrontStop, front};
 use al_host::Host;
 use al_typed::Program;
+use alef_texts::{End, kept, load_text};
 use rv_isa::image::Image;
 use rv_sound_runs::accepted_texts_run_as_meant;
 use std::alloc::Global;
@@ -32,7 +31,7 @@ fn image_found(alloc: Global, found: &Result<Program, FrontStop>) -> Result<Imag
 }
 
 /// The image of a text that is accepted, within the limits, or why there is none.
-fn compiled(alloc: Global, text: &[u8]) -> Result<Image, End>
+pub(crate) fn compiled(alloc: Global, text: &[u8]) -> Result<Image, End>
     ensures { CompilesText text.now result }
 {
     accepted_texts_run_as_meant();
@@ -44,6 +43,7 @@ fn compiled(alloc: Global, text: &[u8]) -> Result<Image, End>
 /// Reads the text of that name and compiles it.
 pub(crate) fn load_program<H: Host>(alloc: Global, host: &mut H, file: &str) -> Result<Image, End>
     ensures image { IfOk result (λ image. (p : SpecProgram) × IsImageOf file.now p image (H.content host.old) (H.content host.new) (H.faults host.old) (H.faults host.new)) }
+    ensures same { OnOk result (KeepsTexts (H.content host.old) (H.content host.new)) }
     ensures none { IfErr result (λ end. LacksProgram file.now end (H.content host.old) (H.content host.new) (H.faults host.old) (H.faults host.new)) }
 {
     let bytes = load_text(alloc, host, file)?;

@@ -1,17 +1,16 @@
 //! The mode `exec`: an image runs.
 
 ghost use Rattle.std.specs.Prelude.{◌≡◌, ◌^◌, ◌≤◌, Some, option_map};
-ghost use Rattle.alef_run.specs.Status.{status_of};
-ghost use Rattle.alef_run.specs.Call.{call_by};
+ghost use Rattle.alef_texts.specs.Status.{status_of};
+ghost use Rattle.alef_texts.specs.Call.{call_by};
 ghost use Rattle.alef_run.specs.ExecMode.{EndsExec};
 ghost use Rattle.alef_run.specs.Modes.{line_by};
 
 use crate::image::run_image;
-use crate::load::load_image;
-use crate::report::Report;
 use al_host::{Host, Sink};
 use al_rounds::Gate;
 use al_words::Job;
+use alef_texts::{Report, load_image};
 use std::alloc::Global;
 use std::sync::Wait;
 use std::thread::Threads;

@@ -1,22 +1,17 @@
 //! The command `alef` as one call: words, a host and two sinks in, a report out.
 #![tactic(auto)]
 
+mod along;
 mod build;
 mod call;
-mod check;
 mod compiling;
 mod exec;
 mod image;
-mod kept;
-mod line;
-mod load;
-mod outside;
-mod refusal;
-mod report;
+mod record;
+mod replay;
 mod rounds;
 mod run;
-mod schedule;
-mod step;
+mod sample;
 
+pub use alef_texts::{End, Report, ScheduleFault};
 pub use call::alef;
-pub use report::{End, Report, ScheduleFault};

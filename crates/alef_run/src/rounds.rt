@@ -4,13 +4,12 @@ ghost use Rattle.std.specs.Prelude.{◌≡◌, ◌+◌, ◌≤◌, ◌^◌, min}
 ghost use Rattle.al_core.specs.History.{opening};
 ghost use Rattle.alef_run.specs.Rounds.{history_along, IsLegal, RanTo, round_length};
 
-use crate::outside::write_all;
-use crate::report::End;
 use al_base::Over;
 use al_core::World;
 use al_host::Sink;
 use al_rounds::Gate;
 use al_workers::round;
+use alef_texts::{End, write_all};
 use std::alloc::Global;
 use std::sync::Wait;
 use std::thread::Threads;

@@ -1,17 +1,17 @@
 //! The mode `run`: a text is compiled, and its image runs.
 
 ghost use Rattle.std.specs.Prelude.{◌≡◌, ◌^◌, ◌≤◌, Some, option_map};
-ghost use Rattle.alef_run.specs.Status.{status_of};
-ghost use Rattle.alef_run.specs.Call.{call_by};
+ghost use Rattle.alef_texts.specs.Status.{status_of};
+ghost use Rattle.alef_texts.specs.Call.{call_by};
 ghost use Rattle.alef_run.specs.RunMode.{EndsRun};
 ghost use Rattle.alef_run.specs.Modes.{line_by};
 
 use crate::compiling::load_program;
 use crate::image::run_image;
-use crate::report::Report;
 use al_host::{Host, Sink};
 use al_rounds::Gate;
 use al_words::Job;
+use alef_texts::Report;
 use std::alloc::Global;
 use std::sync::Wait;
 use std::thread::Threads;

@@ -169,7 +169,7 @@ const TEXTS: [(&str, Want<'static>); 13] = [
     (
         "void main(){}",
         Want {
-            words: &["sample"],
+            words: &["link", "a"],
             ..NO_JOB
         },
     ),

@@ -1,6 +1,6 @@
 use Rattle.std.proofs.Common.{refl}
 use Rattle.alef_run.proofs.Builds.{build_lacks, was_written}
-use Rattle.alef_run.proofs.Reports.{no_image}
+use Rattle.alef_texts.proofs.Reports.{no_image}
 use Rattle.alef_run.proofs.build.build.Goals as goal
 
 pub returns-in-Err-clause-end : goal.returns-in-Err-clause-end

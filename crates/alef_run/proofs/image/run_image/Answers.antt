@@ -1,8 +1,8 @@
 use Rattle.std.proofs.Common.{refl, sym, subst, inl}
-use Rattle.alef_run.specs.Call.{Call, call_by}
+use Rattle.alef_texts.specs.Call.{Call, call_by}
 use Rattle.alef_run.specs.ExecMode.{EndsImage}
 use Rattle.alef_run.proofs.Execs.{image_ran}
-use Rattle.alef_run.proofs.Reports.{no_image}
+use Rattle.alef_texts.proofs.Reports.{no_image}
 use Rattle.alef_run.proofs.image.run_image.Goals as goal
 
 pub returns-in-Err-clause-end : goal.returns-in-Err-clause-end

@@ -1,5 +1,5 @@
 use Rattle.std.proofs.Common.{length, sym, ap, ◌∙◌}
-use Rattle.alef_run.proofs.Between.{between_first, legal, lacked, whole, part_written, fault_later, legal_next, over_next, spent_next, smaller, between_next}
+use Rattle.alef_run.proofs.Between.{between_first, legal, lacked, whole, part_written, fault_later, legal_next, over_next, spent_next, full_round, smaller, between_next}
 use Rattle.alef_run.proofs.rounds.run_world.Goals as goal
 
 pub loop-alloc-init : goal.loop-alloc-init
@@ -36,9 +36,12 @@ returns-then-made-limit-clause-ran g c =
     spent_next _ _ _ _ _ _ _ _ _ _ _ _ c.loop-alloc.invariant c.next_quota-quota.ensures c.round-later.ensures.merged c.entries.ensures.runs c.entries.ensures.quota _ c.clear_output.ensures _ _ (sym c.over.ensures.over ∙ c.in_default.is) (sym (ap length c.entries.ensures.entries) ∙ c.if-made-limit.true) (rw c.output.ensures at c.in-Ok.ensures.all) c.in-Ok.ensures.ok
 
 pub loop-alloc-smaller : goal.loop-alloc-smaller
-loop-alloc-smaller g c = smaller _ _ _ _ _ _ _ _ _ _ _ _ c.loop-alloc.invariant c.next_quota-quota.ensures c.round-later.ensures.merged c.entries.ensures.runs c.entries.ensures.quota _ c.clear_output.ensures (c.round-later.ensures.done (sym c.is_some.ensures ∙ c.if-is_some.false)) (sym c.over.ensures.over ∙ c.in_default.is)
+loop-alloc-smaller g c =
+    smaller _ _ _ _ _ _ _ _ _ _ _ _ c.loop-alloc.invariant c.next_quota-quota.ensures c.round-later.ensures.merged c.entries.ensures.runs c.entries.ensures.quota _ c.clear_output.ensures
+    (full_round _ _ _ _ _ _ _ _ _ _ _ _ c.loop-alloc.invariant c.next_quota-quota.ensures c.round-later.ensures.merged c.entries.ensures.runs c.entries.ensures.quota _ c.clear_output.ensures (c.round-later.ensures.done (sym c.is_some.ensures ∙ c.if-is_some.false)) (sym c.over.ensures.over ∙ c.in_default.is))
 
 pub loop-alloc-preserved : goal.loop-alloc-preserved
 loop-alloc-preserved g c =
-    between_next _ _ _ _ _ _ _ _ _ _ _ _ c.loop-alloc.invariant c.next_quota-quota.ensures c.round-later.ensures.merged c.entries.ensures.runs c.entries.ensures.quota _ c.clear_output.ensures (c.round-later.ensures.done (sym c.is_some.ensures ∙ c.if-is_some.false)) (sym c.over.ensures.over ∙ c.in_default.is) _ _ _
+    between_next _ _ _ _ _ _ _ _ _ _ _ _ c.loop-alloc.invariant c.next_quota-quota.ensures c.round-later.ensures.merged c.entries.ensures.runs c.entries.ensures.quota _ c.clear_output.ensures
+    (full_round _ _ _ _ _ _ _ _ _ _ _ _ c.loop-alloc.invariant c.next_quota-quota.ensures c.round-later.ensures.merged c.entries.ensures.runs c.entries.ensures.quota _ c.clear_output.ensures (c.round-later.ensures.done (sym c.is_some.ensures ∙ c.if-is_some.false)) (sym c.over.ensures.over ∙ c.in_default.is)) _ _ _
     (ap length c.entries.ensures.entries) (c.round-later.ensures.here (sym c.is_some.ensures ∙ c.if-is_some.false)) c.if-made-limit.false (rw c.output.ensures at c.in-Ok.ensures.all) c.in-Ok.ensures.ok

@@ -1,5 +1,5 @@
 use Rattle.std.proofs.Common.{refl}
-use Rattle.alef_run.proofs.Reports.{no_image}
+use Rattle.alef_texts.proofs.Reports.{no_image}
 use Rattle.alef_run.proofs.Runs.{run_lacks, run_ends}
 use Rattle.alef_run.proofs.run.run.Goals as goal
 

@@ -1,0 +1,9 @@
+pub mod Call
+pub mod CheckMode
+pub mod Line
+pub mod Load
+pub mod Outside
+pub mod ScheduleLine
+pub mod Status
+pub mod StepMode
+pub mod TextLine
