@@ -19,36 +19,36 @@ const NO_MEMORY: u8 = 8;
 const STACK: usize = 1 << 30;
 
 fn main(rt: HostRuntime) -> ExitCode {
+    let job = || {
+        let alloc = rt.alloc();
+        let mut host = FileHost::new(&rt);
+        let mut out = OutSink::new(rt.stdout());
+        let mut log = LogSink::new(rt.stderr());
+        match names(&rt, alloc) {
+            Ok(names) => match words_of(alloc, &names) {
+                Ok(words) => {
+                    alef(&rt, alloc, &words, &mut host, &mut out, &mut log, &OpenGate).status
+                }
+                Err(NoMemory) => out_of_memory(&mut log),
+            },
+            Err(error) if error.kind() == ErrorKind::InvalidData => {
+                // words that are no text are no job
+                alef(&rt, alloc, &[], &mut host, &mut out, &mut log, &OpenGate).status
+            }
+            Err(_) => out_of_memory(&mut log),
+        }
+    };
     let status = thread::scope(thread::scope_env(), &rt, |scope| {
         match Builder::new()
             .stack_size(STACK)
-            .spawn_scoped(scope, || job(&rt))
+            .spawn_scoped(scope, || job())
         {
             Ok(handle) => handle.join(&rt),
             // where there is no such thread, on the stack that there is
-            Err(_) => job(&rt),
+            Err(_) => job(),
         }
     });
     ExitCode::from(status)
-}
-
-/// Does what the program's words say, and gives its status.
-fn job(rt: &HostRuntime) -> u8 {
-    let alloc = rt.alloc();
-    let mut host = FileHost::new(rt);
-    let mut out = OutSink::new(rt.stdout());
-    let mut log = LogSink::new(rt.stderr());
-    match names(rt, alloc) {
-        Ok(names) => match words_of(alloc, &names) {
-            Ok(words) => alef(rt, alloc, &words, &mut host, &mut out, &mut log, &OpenGate).status,
-            Err(NoMemory) => out_of_memory(&mut log),
-        },
-        Err(error) if error.kind() == ErrorKind::InvalidData => {
-            // words that are no text are no job
-            alef(rt, alloc, &[], &mut host, &mut out, &mut log, &OpenGate).status
-        }
-        Err(_) => out_of_memory(&mut log),
-    }
 }
 
 /// The words after the program's name.
