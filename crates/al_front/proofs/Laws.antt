@@ -47,6 +47,7 @@ no_tree_refused text p r a w is =
 pub never_both : (text : List ℕ) (p : Program) (r : Refused) → IsAccepted text p → IsWithin p → IsRefused text r → ⊥
 never_both text p (refused.Lex f) a w is = let c = a.read.cut in never_stuck text c.pieces f.reason f.byte c.cut is.1
 never_both text p (refused.Parse f) a w is = is.none a.tree (retold text a.read.tokens is.tokens a.tree a.read.cut is.cut a.read.is)
+never_both text p (refused.Types l) a w is = no_tree_refused text p (refused.Types l) a w is
 never_both text p (refused.Typing f) a w is = no_tree_refused text p (refused.Typing f) a w is
 never_both text p (refused.Limit l) a w (inl long) = let short = a.read.short in let more = long.0 in omega (arith, short, more)
 never_both text p (refused.Limit l) a w (inr is) = no_tree_refused text p (refused.Limit l) a w is

@@ -1,5 +1,5 @@
 -- A tree that has a program within the limits is not refused.
-use Rattle.std.proofs.Common.{◌≡◌, ℕ, ◌<◌, ◌≤◌, List, [], length, true, Ok, Err, Result, refl, sym, ap, ◌∙◌, subst, arith, inl, inr}
+use Rattle.std.proofs.Common.{◌≡◌, ℕ, ◌<◌, ◌≤◌, List, [], length, true, Option, Some, None, Ok, Err, Result, refl, sym, ap, ◌∙◌, subst, arith, inl, inr}
 use Rattle.std.proofs.lemmas.Bool.{le-ltb}
 use Rattle.al_tree.specs.declared.item.Tree.{Tree}
 use Rattle.al_rules.specs.declared.fault.TypeStop.TheVariants as typing
@@ -11,6 +11,7 @@ use Rattle.al_poly.specs.Instances.{misuses}
 use Rattle.al_typed.specs.declared.limit.Limit.{Limit}
 use Rattle.al_typed.specs.declared.program.Program.{Program}
 use Rattle.al_typed.specs.Measures.{wide, weight, greatest_weight, slots, weighed, IsWithin}
+use Rattle.al_type_limits.specs.declared.limit.TypeLimit.{TypeLimit}
 use Rattle.al_front.specs.Accepted.{IsTyped, IsTreeRefused}
 use Rattle.al_front.specs.declared.refused.Refused.{Refused}
 use Rattle.al_front.specs.declared.refused.Refused.TheVariants as refused
@@ -32,6 +33,7 @@ one_typed tree p q a b = let both : ◌≡◌ {A = Outcome Program} (Good p) (Go
 pub never_both_tree : (tree : Tree) (p : Program) (r : Refused) → IsTyped tree p → IsWithin p → IsTreeRefused tree r → ⊥
 never_both_tree tree p (refused.Lex f) t w is = is
 never_both_tree tree p (refused.Parse f) t w is = is
+never_both_tree tree p (refused.Types l) t w is = let e : ◌≡◌ {A = Option TypeLimit} (Some l) None = sym is ∙ t.small in cc
 never_both_tree tree p (refused.Typing f) t w (inl m) = no_fault tree p m.fault t m.is
 never_both_tree tree p (refused.Typing f) t w (inr b) =
     let e : permits (Good p) (typing.Fault f) ≡ true = ap (λ (o : Outcome Program). permits o (typing.Fault f)) (sym t.good) ∙ b.broken in cc

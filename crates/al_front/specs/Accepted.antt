@@ -1,5 +1,5 @@
 -- Which texts are accepted, with which program, and when a text is refused for what.
-use Rattle.std.specs.Prelude.{◌≡◌, ℕ, ◌<◌, ◌≤◌, ◌^◌, ◌+◌, ◌⊎◌, ⊤, List, [], length, true, Result, Ok, Err}
+use Rattle.std.specs.Prelude.{◌≡◌, ℕ, ◌<◌, ◌≤◌, ◌^◌, ◌+◌, ◌⊎◌, ⊤, List, [], length, true, Some, None, Result, Ok, Err}
 use Rattle.al_lex.specs.declared.token.Token.{Token}
 use Rattle.al_lex.specs.Cut.{Stuck}
 use Rattle.al_lex.specs.Written.{IsCutInto}
@@ -18,6 +18,7 @@ use Rattle.al_typed.specs.declared.limit.Limit.TheVariants as limit
 use Rattle.al_typed.specs.declared.program.Program.{Program}
 use Rattle.al_typed.specs.Measures.{wide, weight, greatest_weight, slots, weighed, IsWithin}
 use Rattle.al_check.specs.Checked.{check}
+use Rattle.al_type_limits.specs.Limits.{passed}
 use Rattle.al_front.specs.Stops.{of_uses}
 use Rattle.al_front.specs.declared.refused.Refused.{Refused}
 use Rattle.al_front.specs.declared.refused.Refused.TheVariants as refused
@@ -35,8 +36,9 @@ pub record IsRead (text : List ℕ) (tree : Tree) : Type 0 where
   pub cut : IsCutInto text tokens
   pub is : IsText (record { list = tokens; text = text }) tree
 
--- the typed program of a tree: it has at most 256 instances, and no node breaks a typing rule
+-- the typed program of a tree: its types are within the limits, it has at most 256 instances, and no node breaks a typing rule
 pub record IsTyped (tree : Tree) (p : Program) : Type 0 where
+  pub small : passed tree.items ≡ None
   pub few : length (instances tree.items) ≤ 256
   pub used : misuses tree.items ≡ []
   pub good : check tree (instances tree.items) ≡ Good p
@@ -57,14 +59,16 @@ pub record LacksTree (text : List ℕ) (fault : ParseFault) : Type 0 where
   pub named : IsParseFault (record { list = tokens; text = text }) fault
   pub none : (tree : Tree) → IsText (record { list = tokens; text = text }) tree → ⊥
 
--- a use of an adt with parameters breaks rule 13 or 14, or there are more than 256 instances
+-- a use of an adt with parameters breaks rule 13 or 14, or there are more than 256 instances; types are within the limits
 pub record IsMisused (tree : Tree) (r : Refused) : Type 0 where
+  pub small : passed tree.items ≡ None
   pub fault : PolyFault
   pub is : IsFault tree.items fault
   pub refuses : r ≡ of_uses fault
 
 -- a node breaks another rule
 pub record IsBroken (tree : Tree) (f : TypeFault) : Type 0 where
+  pub small : passed tree.items ≡ None
   pub few : length (instances tree.items) ≤ 256
   pub used : misuses tree.items ≡ []
   pub broken : permits (check tree (instances tree.items)) (typing.Fault f) ≡ true
@@ -85,6 +89,7 @@ pub record Passes (p : Program) (s : FrontStop) : Type 0 where
 abbrev pub IsTreeRefused : Tree → Refused → Type 0
 IsTreeRefused tree (refused.Lex f) = ⊥
 IsTreeRefused tree (refused.Parse f) = ⊥
+IsTreeRefused tree (refused.Types l) = passed tree.items ≡ Some l
 IsTreeRefused tree (refused.Typing f) = IsMisused tree (refused.Typing f) ⊎ IsBroken tree f
 IsTreeRefused tree (refused.Limit l) = IsMisused tree (refused.Limit l) ⊎ IsPassed tree l
 
@@ -101,6 +106,7 @@ IsLong text l = (most < length text) × (l ≡ limit.Long (most + 1))
 abbrev pub IsRefused : List ℕ → Refused → Type 0
 IsRefused text (refused.Lex f) = (length text ≤ most) × Stuck text f.reason f.byte
 IsRefused text (refused.Parse f) = LacksTree text f
+IsRefused text (refused.Types l) = IsTextRefused text (refused.Types l)
 IsRefused text (refused.Typing f) = IsTextRefused text (refused.Typing f)
 IsRefused text (refused.Limit l) = IsLong text l ⊎ IsTextRefused text (refused.Limit l)
 

@@ -3,6 +3,8 @@ use Rattle.al_lex.specs.declared.fault.LexStop.{LexStop}
 use Rattle.al_lex.specs.declared.fault.LexStop.TheVariants as lex
 use Rattle.al_tree.specs.declared.fault.ParseStop.{ParseStop}
 use Rattle.al_tree.specs.declared.fault.ParseStop.TheVariants as parse
+use Rattle.al_type_limits.specs.declared.limit.TypesStop.{TypesStop}
+use Rattle.al_type_limits.specs.declared.limit.TypesStop.TheVariants as types
 use Rattle.al_rules.specs.declared.fault.TypeStop.{TypeStop}
 use Rattle.al_rules.specs.declared.fault.TypeStop.TheVariants as typing
 use Rattle.al_rules.specs.Outcome.{fault}
@@ -23,6 +25,10 @@ of_lex lex.NoMemory = stop.NoMemory
 abbrev pub of_parse : ParseStop → FrontStop
 of_parse (parse.Fault f) = stop.Refused (refused.Parse f)
 of_parse parse.NoMemory = stop.NoMemory
+
+abbrev pub of_types : TypesStop → FrontStop
+of_types (types.Limit l) = stop.Refused (refused.Types l)
+of_types types.NoMemory = stop.NoMemory
 
 abbrev pub of_typing : TypeStop → FrontStop
 of_typing (typing.Fault f) = stop.Refused (refused.Typing f)

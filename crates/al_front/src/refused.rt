@@ -6,6 +6,7 @@ use al_lex::{LexFault, LexStop};
 use al_poly::{PolyFault, PolyStop};
 use al_rules::{TypeFault, TypeStop};
 use al_tree::{ParseFault, ParseStop};
+use al_type_limits::{TypeLimit, TypesStop};
 use al_typed::Limit;
 
 /// Why a text is refused.
@@ -15,6 +16,8 @@ pub enum Refused {
     Lex(LexFault),
     /// Its tokens have no tree of at most 200 levels.
     Parse(ParseFault),
+    /// Its types have too many levels or parts.
+    Types(TypeLimit),
     /// A node of its tree breaks a typing rule.
     Typing(TypeFault),
     /// It passes a limit.
@@ -63,6 +66,20 @@ impl From<ParseStop> for FrontStop {
         match stop {
             ParseStop::Fault(fault) => FrontStop::Refused(Refused::Parse(fault)),
             ParseStop::NoMemory => FrontStop::NoMemory,
+        }
+    }
+}
+
+impl From<TypesStop> for FrontStop {
+    ghost use Rattle.std.specs.Prelude.{◌≡◌};
+    ghost use Rattle.al_front.specs.Stops.{of_types};
+
+    ghost from_gives = { λ stop it. it ≡ of_types stop };
+
+    fn from(stop: TypesStop) -> FrontStop {
+        match stop {
+            TypesStop::Limit(limit) => FrontStop::Refused(Refused::Types(limit)),
+            TypesStop::NoMemory => FrontStop::NoMemory,
         }
     }
 }

@@ -13,6 +13,7 @@ use al_operands::beside;
 use al_parse_stmt::parse;
 use al_poly::concrete;
 use al_tree::Tree;
+use al_type_limits::types_within;
 use al_typed::{Program, weigh};
 use std::alloc::Global;
 
@@ -45,6 +46,7 @@ pub(crate) fn program_of(alloc: Global, tree: &Tree) -> Result<Program, FrontSto
     ensures answer { AnswersTree tree.now result }
     ensures laid { IfOk result (λ p. IsLaidOut p.aggregates) }
 {
+    types_within(alloc, tree)?;
     let instances = concrete(alloc, tree)?;
     let program = check(alloc, tree, &instances)?;
     let passed = within(&program);

@@ -15,7 +15,7 @@ use std::alloc::Global;
 const MOST_BYTES: usize = 1 << 20;
 
 /// The typed program of a text, where it is accepted and within the limits; else why it is refused, and the first that holds of:
-/// more than 2^20 bytes, no tokens, no tree of at most 200 levels, more than 256 instances, a typing rule that is broken, a
+/// more than 2^20 bytes, no tokens, no tree of at most 200 levels, a type of too many levels, types of too many parts, more than 256 instances, a typing rule that is broken, a
 /// value too wide, a program or a function too heavy, a function with too many slots.
 pub fn front(alloc: Global, text: &[u8]) -> Result<Program, FrontStop>
     ensures program { IfOk result (λ p. IsAccepted text.now p × IsWithin p) }

@@ -5,6 +5,8 @@ use Rattle.al_lex.specs.declared.fault.LexReason.{LexReason}
 use Rattle.al_lex.specs.declared.fault.LexReason.TheVariants.{BadChar, OpenComment, OpenString, BadEscape, NumberTooBig}
 use Rattle.al_tree.specs.declared.fault.ParseReason.{ParseReason}
 use Rattle.al_tree.specs.declared.fault.ParseReason.TheVariants.{Unexpected, EndOfText, Deep}
+use Rattle.al_type_limits.specs.declared.limit.TypeLimit.{TypeLimit}
+use Rattle.al_type_limits.specs.declared.limit.TypeLimit.TheVariants.{Depth, Parts}
 use Rattle.al_typed.specs.declared.limit.Limit.{Limit}
 use Rattle.al_typed.specs.declared.limit.Limit.TheVariants.{Long, Instances, Wide, Weight, FunctionWeight, Slots}
 use Rattle.al_front.specs.declared.refused.Refused.{Refused}
@@ -41,6 +43,14 @@ limit_number (Weight n) = n
 limit_number (FunctionWeight n) = n
 limit_number (Slots n) = n
 
+abbrev pub type_limit_name : TypeLimit → List ℕ
+type_limit_name (Depth n) = codes "TypeDepth"
+type_limit_name (Parts n) = codes "TypeParts"
+
+abbrev pub type_limit_number : TypeLimit → ℕ
+type_limit_number (Depth n) = n
+type_limit_number (Parts n) = n
+
 -- ---- lines
 
 -- how a line begins that names a place
@@ -51,5 +61,6 @@ at_place p = codes "alef: line " ++ decimal p.line ++ codes " col " ++ decimal p
 abbrev pub text_line : Refused → List ℕ
 text_line (because.Lex f) = codes "alef: byte " ++ decimal f.byte ++ codes ": " ++ lex_name f.reason ++ codes "\n"
 text_line (because.Parse f) = at_place f.place ++ parse_name f.reason ++ codes "\n"
+text_line (because.Types l) = codes "alef: limit " ++ type_limit_name l ++ codes " " ++ decimal (type_limit_number l) ++ codes "\n"
 text_line (because.Typing f) = at_place f.place ++ codes "rule " ++ decimal f.rule ++ codes "\n"
 text_line (because.Limit l) = codes "alef: limit " ++ limit_name l ++ codes " " ++ decimal (limit_number l) ++ codes "\n"

@@ -10,6 +10,7 @@ use al_front::Refused;
 use al_lex::{LexFault, LexReason};
 use al_rules::TypeFault;
 use al_tree::{ParseFault, ParseReason};
+use al_type_limits::TypeLimit;
 use al_typed::Limit;
 
 fn lex_name(reason: LexReason) -> &'static [u8]
@@ -61,6 +62,24 @@ fn limit_number(limit: Limit) -> u64
         | Limit::Weight(number)
         | Limit::FunctionWeight(number)
         | Limit::Slots(number) => number,
+    }
+}
+
+fn type_limit_name(limit: TypeLimit) -> &'static [u8]
+    ensures name { result.now ≡ spec.type_limit_name limit }
+    ensures short { length result.now ≤ 9 }
+{
+    match limit {
+        TypeLimit::Depth(_) => b"TypeDepth",
+        TypeLimit::Parts(_) => b"TypeParts",
+    }
+}
+
+fn type_limit_number(limit: TypeLimit) -> u64
+    ensures { result ≡ spec.type_limit_number limit }
+{
+    match limit {
+        TypeLimit::Depth(number) | TypeLimit::Parts(number) => number,
     }
 }
 
@@ -122,6 +141,18 @@ fn limit_line(buf: &mut [u8], limit: Limit) -> usize
     put(buf, end, b"\n")
 }
 
+fn type_limit_line(buf: &mut [u8], limit: TypeLimit) -> usize
+    requires { 80 ≤ length buf.old }
+    ensures text { take result buf.new ≡ spec.text_line (because.Types limit) }
+    ensures within { result ≤ 80 }
+{
+    let mut end = put(buf, 0, b"alef: limit ");
+    end = put(buf, end, type_limit_name(limit));
+    end = put(buf, end, b" ");
+    end = put_long(buf, end, type_limit_number(limit));
+    put(buf, end, b"\n")
+}
+
 /// Writes the line that the log gets for a text that is refused to the front of a buffer, and gives its length.
 pub(crate) fn text_line(buf: &mut [u8; 80], refused: Refused) -> usize
     ensures text { take result buf.new ≡ spec.text_line refused }
@@ -130,6 +161,7 @@ pub(crate) fn text_line(buf: &mut [u8; 80], refused: Refused) -> usize
     match refused {
         Refused::Lex(fault) => lex_line(buf, fault),
         Refused::Parse(fault) => parse_line(buf, fault),
+        Refused::Types(limit) => type_limit_line(buf, limit),
         Refused::Typing(fault) => typing_line(buf, fault),
         Refused::Limit(limit) => limit_line(buf, limit),
     }
