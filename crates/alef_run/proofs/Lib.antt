@@ -1,4 +1,5 @@
 pub mod Alongs
+pub mod AsRecorded
 pub mod Between
 pub mod Builds
 pub mod Causes

@@ -6,6 +6,7 @@ pub mod Meant
 pub mod MeantAlong
 pub mod Modes
 pub mod RecordMode
+pub mod Recorded
 pub mod ReplayMode
 pub mod Rounds
 pub mod RunMode

@@ -7,6 +7,7 @@ mod call;
 mod compiling;
 mod exec;
 mod image;
+mod law;
 mod record;
 mod replay;
 mod rounds;
@@ -15,3 +16,4 @@ mod sample;
 
 pub use alef_texts::{End, Report, ScheduleFault};
 pub use call::alef;
+pub use law::replays_are_as_recorded;
