@@ -9,7 +9,6 @@ mod limits;
 mod machinery;
 mod order;
 mod plain;
-mod rounds;
 mod sends;
 mod sharing;
 mod start;

@@ -14,7 +14,6 @@ ghost use Rattle.al_world.specs.Procs.{most_tasks};
 
 use crate::limits::Limits;
 use crate::machinery::Machinery;
-use crate::rounds::Rounds;
 use crate::turn::MOST_TASKS;
 use crate::world::World;
 use al_base::{NoMemory, Over, Trap};
@@ -160,7 +159,6 @@ impl World {
             line: 0,
             work: 0,
             loans: [None; 64],
-            rounds: Rounds::new(),
         })
     }
 }

@@ -9,7 +9,7 @@ use crate::answers::{After, StepFault};
 use crate::order::{Refused, Stop};
 use crate::world::World;
 use al_base::{NoMemory, Over};
-use al_event::{Entry, Loan};
+use al_event::{Act, Entry, Loan};
 use rv_exec::{Asked, Held, stretch};
 use std::alloc::Global;
 
@@ -45,6 +45,18 @@ fn copy(alloc: Global, held: &Held) -> Result<Held, NoMemory>
         hart,
         privates,
     })
+}
+
+/// The pick to try first of an action that comes after so many entries: an alt takes its branches in turn, so that none that can
+/// go is passed over for ever.
+fn first_pick(act: &Act, entries: usize) -> u16 {
+    match act {
+        Act::Talk { branches } => {
+            let count = branches.len().clamp(1, 64);
+            (entries % count) as u16
+        }
+        _ => 0,
+    }
 }
 
 /// What was fetched, with the words of one more stretch.
@@ -176,8 +188,7 @@ impl World {
         ensures refused { IfErr result (λ e. e.0 ≡ asked) }
         ensures same { OnErr result (self.new ≡ self.old) }
     {
-        let pc = asked.held.hart.pc();
-        let pick = self.rounds.first_pick(&asked.act, asked.held.proc, pc);
+        let pick = first_pick(&asked.act, self.entries.len());
         match self.make(worker, worker, pick, asked) {
             Ok(()) => Ok(pick),
             Err((asked, Refused::NoMemory)) => Err((asked, NoMemory)),

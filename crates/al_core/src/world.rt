@@ -5,7 +5,6 @@ ghost use Rattle.al_event.specs.declared.entry.Loan.{Loan};
 
 use crate::answers::{After, Next, StepFault};
 use crate::machinery::Machinery;
-use crate::rounds::Rounds;
 use crate::turn::fault_of;
 use al_base::{NoMemory, Over};
 use al_event::{Entry, Loan};
@@ -33,7 +32,6 @@ pub struct World {
     pub(crate) line: u32,
     pub(crate) work: u128,
     pub(crate) loans: [Option<Loan>; 64],
-    pub(crate) rounds: Rounds,
 }
 
 impl Model for World {
