@@ -5,3 +5,5 @@
 mod lines;
 #[cfg(test)]
 mod runs;
+#[cfg(test)]
+mod tables;
