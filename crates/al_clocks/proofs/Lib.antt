@@ -1,0 +1,4 @@
+pub mod Facts
+pub mod Coming
+pub mod Steps
+pub mod Telling
