@@ -1,7 +1,7 @@
 -- A world that goes along a schedule.
 use Rattle.std.proofs.Common.{◌≡◌, ℕ, ◌+◌, ◌-◌, ◌<◌, ◌≤◌, List, [], ◌∷◌, ◌++◌, length, take, drop, min, Option, Some, None, refl, sym, ap, ap₂, ◌∙◌, subst, arith, append_assoc, append-nil, length-append, inl, inr, All}
 use Rattle.std.specs.Prelude.{slice_get, slice_index_or, option_map, option_and_then, IsSome}
-use Rattle.std.proofs.lemmas.List.{length-take, length-drop, take-take, take_all, take_more, get_or-take, get_or-drop}
+use Rattle.std.proofs.lemmas.List.{length-take, length-drop, take-take, take_all, take_more, get_or-take, get_or-drop, nil_from_length}
 use Rattle.std.proofs.lemmas.List.Elements.{All-take, All-drop, All-weaker}
 use Rattle.std.proofs.lemmas.Option.{slice_get_within, slice_get-get_or, get_or_from_slice_get}
 use Rattle.al_base.specs.declared.over.Over.{Over}
@@ -177,6 +177,17 @@ first_going s w before faults first now now_is some =
     let zero_is : 0 ≡ length now = sym (ap length (now_is ∙ none)) in
     let P : ℕ → Type 0 = λ made. Going w.image w.region s w made before before faults faults in
     subst P zero_is (record { between = between_first 64 (length s) w before faults first (let z = zero_is in omega (arith, z, some)); front = none })
+
+-- a schedule without entries
+pub ended_at_once : (s : List Entry) (w : History) (before : Option (List ℕ)) (faults : ℕ) → w ≡ opening w.image w.region (length s) → (now : List Entry) → now ≡ w.entries → length now ≡ length s → (end : End)
+    → end ≡ end_by (over_of w) → WentTo (history_along w.image w.region (length s) w.entries) s end before before faults faults
+ended_at_once s w before faults first now now_is full end is =
+    let none : w.entries ≡ [] = ap (λ (h : History). h.entries) first in
+    let all : w.entries ≡ s = none ∙ sym (nil_from_length s (sym full ∙ ap length (now_is ∙ none))) in
+    let E : End → Type 0 = λ end. WentTo (history_along w.image w.region (length s) w.entries) s end before before faults faults in
+    let P : List Entry → Type 0 = λ entries. WhereTold (GetsAll (output_of (history_along w.image w.region (length s) entries))) before before in
+    let B = between_first 64 1 (opening w.image w.region 1) before faults refl (omega arith) in
+    subst E (sym is) (ended (history_along w.image w.region (length s) w.entries) s (over_of w) before before faults faults (over_along w.image w.region (length s) w refl refl) all (ap length all) (subst P (sym none) B.written) refl)
 
 -- ---- a whole round
 

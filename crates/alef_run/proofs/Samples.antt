@@ -1,5 +1,5 @@
 -- The mode `sample`: from what its stages say to why it ends as it does, and to which end each cause has.
-use Rattle.std.proofs.Common.{◌≡◌, ℕ, ◌+◌, ◌<◌, List, ◌++◌, length, take, drop, Option, Err, refl, sym, ap, ◌∙◌, subst, arith, append_assoc, length-append, inl, inr}
+use Rattle.std.proofs.Common.{◌≡◌, ℕ, ◌+◌, ◌<◌, List, ◌++◌, length, take, drop, Option, Some, None, Err, refl, sym, ap, ◌∙◌, subst, arith, append_assoc, length-append, inl, inr}
 use Rattle.std.specs.Prelude.{◌⊎◌}
 use Rattle.std.proofs.lemmas.List.{take-append-le, drop_at, take_at}
 use Rattle.al_base.specs.declared.over.Over.{Over}
@@ -9,7 +9,7 @@ use Rattle.al_words.specs.declared.job.Job.{Job}
 use Rattle.rv_isa.specs.declared.image.Contents.{Contents}
 use Rattle.al_sample.specs.Sample.{sample_text}
 use Rattle.al_front.proofs.Laws.{never_both}
-use Rattle.al_core.specs.History.{output_of}
+use Rattle.al_core.specs.History.{output_of, line_of}
 use Rattle.alef_texts.specs.Call.{Call, IsUnread, DidNothing}
 use Rattle.alef_texts.specs.CheckMode.{HasProgram}
 use Rattle.alef_texts.specs.Outside.{GetsAll, GetsPart}
@@ -18,7 +18,8 @@ use Rattle.alef_texts.specs.declared.report.End.TheVariants.{Ran, Made, Words, R
 use Rattle.alef_texts.proofs.Told.{neither, told_as, told_then, take-add}
 use Rattle.alef_run.specs.Compiling.{IsCompiled, CompilesText}
 use Rattle.alef_run.specs.ExecMode.{comes_to, DidRunImage, EndsImage}
-use Rattle.alef_run.specs.Rounds.{GetsRounds}
+use Rattle.alef_run.specs.Rounds.{GetsRounds, history_along}
+use Rattle.alef_run.specs.Modes.{line_by}
 use Rattle.alef_run.specs.SampleMode.{count_line, RanSample, sample_output, EndsSample, EndsCounting}
 
 -- ---- what a sink got
@@ -42,6 +43,12 @@ part_behind out line a b c p (n, few, e) = (
         take-add (length o) n (o ++ line)
         ∙ ap (λ (v : List ℕ). v ++ take n (drop (length o) (o ++ line))) (take_at o line (length o) refl)
         ∙ ap (λ (v : List ℕ). o ++ take n v) (drop_at o line (length o) refl)
+
+-- the line of a trap, where the schedule and the image stay
+pub same_line : (job : Job) (i i' : Option Contents) (call call' : Call) → i' ≡ i → call'.schedule ≡ call.schedule → line_by (Some job) i call ≡ line_by (Some job) i' call'
+same_line job None i' call call' e s = sym (ap (λ (o : Option Contents). line_by (Some job) o call') e)
+same_line job (Some image) i' call call' e s =
+    ap (λ (h : List Entry). line_of (history_along image job.region job.entries h)) (sym s) ∙ sym (ap (λ (o : Option Contents). line_by (Some job) o call') e)
 
 -- ---- stages
 

@@ -7,7 +7,7 @@ use Rattle.al_typed.specs.declared.program.Program.{Program}
 use Rattle.al_typed.specs.Measures.{IsWithin}
 use Rattle.al_front.specs.Accepted.{IsAccepted, IsRefused}
 use Rattle.al_front.specs.declared.refused.Refused.{Refused as Reason}
-use Rattle.al_front.specs.declared.refused.Refused.TheVariants.{Lex, Parse, Typing, Limit}
+use Rattle.al_front.specs.declared.refused.Refused.TheVariants.{Lex, Parse, Types, Typing, Limit}
 use Rattle.al_front.specs.declared.refused.FrontStop.{FrontStop}
 use Rattle.al_front.specs.declared.refused.FrontStop.TheVariants as stop
 use Rattle.al_front.proofs.Laws.{never_both}
@@ -41,6 +41,7 @@ module _ (text front : List ℕ) (e : front ≡ take (2 ^ 20 + 1) text) where
   pub refused_whole : (r : Reason) → IsRefused front r → IsRefused text r
   refused_whole (Lex f) is = same_refused (Lex f) is.0 is
   refused_whole (Parse f) is = same_refused (Parse f) is.short is
+  refused_whole (Types l) is = same_refused (Types l) is.read.short is
   refused_whole (Typing f) is = same_refused (Typing f) is.read.short is
   refused_whole (Limit l) (inl is) = let more = is.0 in let longer = no_longer in inl (omega (arith, more, longer), is.1)
   refused_whole (Limit l) (inr is) = same_refused (Limit l) is.read.short (inr is)

@@ -1,10 +1,14 @@
 use Rattle.std.proofs.Common.{refl}
-use Rattle.alef_run.proofs.Alongs.{first_going, round_legal, round_lacked, round_broken, next_legal, round_stopped, round_ended, round_smaller, round_goes_on}
+use Rattle.alef_run.proofs.Alongs.{first_going, ended_at_once, round_legal, round_lacked, round_broken, next_legal, round_stopped, round_ended, round_smaller, round_goes_on}
 use Rattle.alef_run.proofs.along.go_along.Goals as goal
 
 pub loop-all-init : goal.loop-all-init
 loop-all-init g c =
     first_going _ _ _ _ c.requires.first _ c.entries-made.ensures.entries c.if-made-entries.false
+
+pub returns-then-made-entries-clause-went : goal.returns-then-made-entries-clause-went
+returns-then-made-entries-clause-went g c =
+    ended_at_once _ _ _ _ c.requires.first _ c.entries-made.ensures.entries c.if-made-entries.true _ c.end_of-end.ensures
 
 pub returns-in-Err-clause-legal : goal.returns-in-Err-clause-legal
 returns-in-Err-clause-legal g c =
